@@ -21,9 +21,9 @@ use Rattle.hg_phases.specs.declared.phase.Phase.TheVariants.{Public, Draft, Secr
 use Rattle.hg_phases.specs.State.{State, Held, changesets, IsPhaseOf, IsValid}
 use Rattle.hg_phases.specs.Content.{content_of}
 use Rattle.hg_view.specs.HeadPlaces.{IsHeadAmong}
-use Rattle.hg_discovery.specs.declared.status.Status.{Status}
-use Rattle.hg_discovery.specs.declared.status.Status.TheVariants.{Undecided, Common, Missing}
-use Rattle.hg_discovery.specs.declared.status.PlacedNode.{PlacedNode}
+use Rattle.hg_discovery.specs.declared.finding.Finding.{Finding}
+use Rattle.hg_discovery.specs.declared.finding.Finding.TheVariants.{Undecided, Common, Missing}
+use Rattle.hg_discovery.specs.declared.finding.PlacedNode.{PlacedNode}
 use Rattle.hg_discovery.specs.Under.{IsOneOf, IsParentAt, IsUnder, IsInOrder, IsShapeOf}
 use Rattle.hg_discovery.specs.Search.{Is, IsHead}
 use Rattle.hg_discovery.specs.Order.{placed_node_cmp}
@@ -39,7 +39,7 @@ use Rattle.hg_discovery.proofs.SortLemmas.{ascending_placed_nodes}
 -- ---- what was found of a history
 
 module _ (s : State) (valid : IsValid s) (ps : List ParentPlaces) (shape : IsShapeOf (changesets s) ps)
-    (xs : List PlacedNode) (shared : (x : PlacedNode) → Contains xs x ↔ IsShared s x) (ds : List Status)
+    (xs : List PlacedNode) (shared : (x : PlacedNode) → Contains xs x ↔ IsShared s x) (ds : List Finding)
     (len : length ds ≡ length ps)
     (undecided : (k : ℕ) → Is ds Undecided k ↔ ((x : PlacedNode) × Contains xs x × (x.place ≡ k)))
     (nothing : (k : ℕ) → Is ds Common k → ⊥) (sorted : IsStrictlySortedBy placed_node_cmp xs) where
@@ -169,20 +169,20 @@ module _ (s : State) (valid : IsValid s) where
 
   undecided_to : (n : ℕ) (xs : List PlacedNode) → ((x : PlacedNode) → Contains xs x → x.place < n) → (i : ℕ)
       → i ≤ length xs
-      → (ds : List Status) × AreUndecidedTo n (take i xs) ds
+      → (ds : List Finding) × AreUndecidedTo n (take i xs) ds
   undecided_to n xs within zero le = (replicate n Missing, AreUndecidedTo-start n)
   undecided_to n xs within (suc i) le =
       let before = undecided_to n xs within i (omega (arith, le)) in
       let lt : i < length xs = omega (arith, le) in
       let next : i + 1 ≡ suc i = omega arith in
-      let new : List Status = set before.0 (get_or xs i nowhere).place Undecided in (
+      let new : List Finding = set before.0 (get_or xs i nowhere).place Undecided in (
         new,
         subst (λ m. AreUndecidedTo n (take m xs) new) next
             (AreUndecidedTo-more n i xs nowhere before.0 lt
             (within (get_or xs i nowhere) (Contains-get_or xs i nowhere lt)) before.1),
       )
 
-  pub baseline_exists : (ps : List ParentPlaces) × (xs : List PlacedNode) × (ds : List Status) × IsBaseline s ps xs ds
+  pub baseline_exists : (ps : List ParentPlaces) × (xs : List PlacedNode) × (ds : List Finding) × IsBaseline s ps xs ds
   baseline_exists =
       let ps = map places_of cs in
       let found = placed_nodes_to (length cs) (omega arith) in
@@ -208,7 +208,7 @@ module _ (s : State) (valid : IsValid s) where
 -- ---- heads
 
 module _ (cs : List Contents) (ps : List ParentPlaces) (shape : IsShapeOf cs ps) (order : IsInOrder ps)
-    (xs : List PlacedNode) (ds : List Status) (d : Status) (asked : List PlacedNode)
+    (xs : List PlacedNode) (ds : List Finding) (d : Finding) (asked : List PlacedNode)
     (there : (x : PlacedNode) → Is ds d x.place → IsAt cs x.node x.place ↔ Contains xs x)
     (convex : (k m j : ℕ) → IsUnder ps k m → IsUnder ps m j → Is ds d k → Is ds d j → Is ds d m) where
   -- a head is what is so, and no child of it

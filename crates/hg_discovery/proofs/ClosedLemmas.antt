@@ -2,14 +2,14 @@
 use Rattle.std.proofs.Common.{◌≡◌, ℕ, ◌<◌, inl, inr, Bool, List, length, arith}
 use Rattle.std.proofs.lemmas.Option.{slice_get_within}
 use Rattle.hg_graph.specs.declared.graph.ParentPlaces.{ParentPlaces}
-use Rattle.hg_discovery.specs.declared.status.Status.{Status}
+use Rattle.hg_discovery.specs.declared.finding.Finding.{Finding}
 use Rattle.hg_discovery.specs.Under.{IsParentAt, IsInOrder, below}
 use Rattle.hg_discovery.specs.Search.{IsClosed}
 use Rattle.hg_discovery.specs.Answers.{IsDecided}
 use Rattle.hg_discovery.proofs.UnderLemmas.{not_both_uc, not_both_um, three, under_then, parent_under}
 
 -- what an answer leaves is closed
-pub decided_closed : (ps : List ParentPlaces) (k : ℕ) (said : Bool) (old new : List Status) → length old ≡ length ps
+pub decided_closed : (ps : List ParentPlaces) (k : ℕ) (said : Bool) (old new : List Finding) → length old ≡ length ps
     → IsInOrder ps → IsClosed ps old → IsDecided ps k said old new → IsClosed ps new
 decided_closed ps place said old new len order closed d = record {
   common = λ j k q h. elim ((d.common j).0 h) [

@@ -25,9 +25,9 @@ use Rattle.hg_view.specs.Share.{IsShared}
 use Rattle.hg_view.specs.HeadPlaces.{IsHeadAmong}
 use Rattle.hg_view.proofs.CommonLemmas.{common_within}
 use Rattle.hg_view.proofs.ShareLemmas.{shared-or}
-use Rattle.hg_discovery.specs.declared.status.Status.{Status}
-use Rattle.hg_discovery.specs.declared.status.Status.TheVariants.{Undecided, Common, Missing}
-use Rattle.hg_discovery.specs.declared.status.PlacedNode.{PlacedNode}
+use Rattle.hg_discovery.specs.declared.finding.Finding.{Finding}
+use Rattle.hg_discovery.specs.declared.finding.Finding.TheVariants.{Undecided, Common, Missing}
+use Rattle.hg_discovery.specs.declared.finding.PlacedNode.{PlacedNode}
 use Rattle.hg_discovery.specs.Between.{AreHeadsInCommon}
 use Rattle.hg_discovery.specs.Order.{placed_node_cmp}
 use Rattle.hg_discovery.specs.Search.{Is, IsClosed, IsHead, nodes_of}
@@ -41,12 +41,12 @@ use Rattle.hg_discovery.proofs.WholeLemmas.{AreToldApart, closed_told, told_in_c
 -- ---- what is so is common, and all else is missing
 
 module _ (Q : ℕ → Type 0) where
-  record IsDecidedBy (n : ℕ) (ds : List Status) : Type 0 where
+  record IsDecidedBy (n : ℕ) (ds : List Finding) : Type 0 where
     pub len : length ds ≡ n
     pub none_undecided : (k : ℕ) → ¬ (Is ds Undecided k)
     pub common : (k : ℕ) → k < n → Is ds Common k ↔ Q k
 
-  one_more : (n : ℕ) (ds : List Status) (d : Status) → IsDecidedBy n ds → d ≢ Undecided → ((d ≡ Common) ↔ Q n)
+  one_more : (n : ℕ) (ds : List Finding) (d : Finding) → IsDecidedBy n ds → d ≢ Undecided → ((d ≡ Common) ↔ Q n)
       → IsDecidedBy (suc n) (ds ++ d ∷ [])
   one_more n ds d before decided last = record {
     len = omega (arith, length-append ds (d ∷ []), before.len);
@@ -71,7 +71,7 @@ module _ (Q : ℕ → Type 0) where
     ];
   }
 
-  decided_by : (n : ℕ) → ((k : ℕ) → k < n → Q k ⊎ ¬ (Q k)) → (ds : List Status) × IsDecidedBy n ds
+  decided_by : (n : ℕ) → ((k : ℕ) → k < n → Q k ⊎ ¬ (Q k)) → (ds : List Finding) × IsDecidedBy n ds
   decided_by zero tell = (
     [],
     record {
@@ -119,10 +119,10 @@ module _ (ours : ReplicaState) (other : KeptValue) (valid : IsValid ours)
       ]
 
   -- what is in common is common, and all else is missing
-  abbrev told : (ds : List Status) × IsDecidedBy (IsCommonAt ours other) (length cs) ds
+  abbrev told : (ds : List Finding) × IsDecidedBy (IsCommonAt ours other) (length cs) ds
   told = decided_by (IsCommonAt ours other) (length cs) in_common-or
 
-  last : List Status
+  last : List Finding
   last = told.0
 
   last_len : length last ≡ length cs
@@ -141,7 +141,7 @@ module _ (ours : ReplicaState) (other : KeptValue) (valid : IsValid ours)
   )
 
   module _ (closed : IsClosedUnderParents cs (IsCommonAt ours other)) (ps : List ParentPlaces) (xs : List PlacedNode)
-      (ds : List Status) (baseline : IsBaseline ours.history ps xs ds) where
+      (ds : List Finding) (baseline : IsBaseline ours.history ps xs ds) where
     apart : AreToldApart Served xs last
     apart = record {
       none_undecided = none_undecided;

@@ -9,9 +9,9 @@ use Rattle.std.proofs.lemmas.Option.{none-some, same_Some, slice_get_within, get
 use Rattle.hg_changeset.proofs.NodeLemmas.{same_not_less}
 use Rattle.hg_graph.proofs.GraphLemmas.{get-take, Contains-from_place, place_from_Contains}
 use Rattle.hg_graph.proofs.MarkLemmas.{get-set_other}
-use Rattle.hg_discovery.specs.declared.status.Status.{Status}
-use Rattle.hg_discovery.specs.declared.status.Status.TheVariants.{Undecided, Common, Missing}
-use Rattle.hg_discovery.specs.declared.status.PlacedNode.{PlacedNode}
+use Rattle.hg_discovery.specs.declared.finding.Finding.{Finding}
+use Rattle.hg_discovery.specs.declared.finding.Finding.TheVariants.{Undecided, Common, Missing}
+use Rattle.hg_discovery.specs.declared.finding.PlacedNode.{PlacedNode}
 use Rattle.hg_discovery.specs.Search.{Search, Is, IsSearch, IsAscending}
 use Rattle.hg_discovery.specs.Answers.{IsRound}
 use Rattle.hg_discovery.specs.Rounds.{AreRounds, undecided}
@@ -20,13 +20,13 @@ use Rattle.hg_discovery.proofs.DrawLemmas.{sample_member, short_sample, done_is}
 
 -- ---- counting
 
-pub none_undecided : (ds : List Status) → ((k : ℕ) → Is ds Undecided k → ⊥) → undecided ds ≡ 0
+pub none_undecided : (ds : List Finding) → ((k : ℕ) → Is ds Undecided k → ⊥) → undecided ds ≡ 0
 none_undecided [] none = refl
 none_undecided (Undecided ∷ ds) none = absurd (none zero refl)
 none_undecided (Common ∷ ds) none = none_undecided ds (λ k. none (suc k))
 none_undecided (Missing ∷ ds) none = none_undecided ds (λ k. none (suc k))
 
-pub some_undecided : (ds : List Status) → undecided ds ≡ 0 → (k : ℕ) → Is ds Undecided k → ⊥
+pub some_undecided : (ds : List Finding) → undecided ds ≡ 0 → (k : ℕ) → Is ds Undecided k → ⊥
 some_undecided [] e k h = none-some Undecided h
 some_undecided (Undecided ∷ ds) e k h = omega (arith, e)
 some_undecided (Common ∷ ds) e zero h = let c : Common ≡ Undecided = same_Some Common Undecided h in cc
@@ -34,7 +34,7 @@ some_undecided (Common ∷ ds) e (suc k) h = some_undecided ds e k h
 some_undecided (Missing ∷ ds) e zero h = let c : Missing ≡ Undecided = same_Some Missing Undecided h in cc
 some_undecided (Missing ∷ ds) e (suc k) h = some_undecided ds e k h
 
-fewer : (old new : List Status) → length new ≡ length old → ((k : ℕ) → Is new Undecided k → Is old Undecided k)
+fewer : (old new : List Finding) → length new ≡ length old → ((k : ℕ) → Is new Undecided k → Is old Undecided k)
     → undecided new ≤ undecided old
 fewer [] [] len within = omega arith
 fewer [] (d ∷ new) len within = absurd (omega (arith, len))
@@ -54,12 +54,12 @@ fewer (Missing ∷ old) (Undecided ∷ new) len within = let c : Missing ≡ Und
 fewer (Missing ∷ old) (Common ∷ new) len within = fewer old new (omega (arith, len)) (λ k. within (suc k))
 fewer (Missing ∷ old) (Missing ∷ new) len within = fewer old new (omega (arith, len)) (λ k. within (suc k))
 
-not_counted : (d : Status) (ds : List Status) → d ≢ Undecided → undecided (d ∷ ds) ≡ undecided ds
+not_counted : (d : Finding) (ds : List Finding) → d ≢ Undecided → undecided (d ∷ ds) ≡ undecided ds
 not_counted Undecided ds ne = absurd (ne refl)
 not_counted Common ds ne = refl
 not_counted Missing ds ne = refl
 
-pub one_less : (ds : List Status) (k : ℕ) (d : Status) → d ≢ Undecided → Is ds Undecided k
+pub one_less : (ds : List Finding) (k : ℕ) (d : Finding) → d ≢ Undecided → Is ds Undecided k
     → undecided ds ≡ suc (undecided (set ds k d))
 one_less [] k d ne h = absurd (none-some Undecided h)
 one_less (Undecided ∷ ds) zero d ne h = ap suc (sym (not_counted d ds ne))
@@ -75,7 +75,7 @@ AreApart xs = (i j : ℕ) (x y : PlacedNode) → slice_get xs i ≡ Some x → s
     → i ≡ j
 
 -- those who were asked about were undecided, and aren't any more
-decided_count : (xs : List PlacedNode) (old new : List Status) → length new ≡ length old → AreApart xs
+decided_count : (xs : List PlacedNode) (old new : List Finding) → length new ≡ length old → AreApart xs
     → ((i : ℕ) (x : PlacedNode) → slice_get xs i ≡ Some x → Is old Undecided x.place)
     → ((i : ℕ) (x : PlacedNode) → slice_get xs i ≡ Some x → Is new Undecided x.place → ⊥)
     → ((k : ℕ) → Is new Undecided k → Is old Undecided k) → undecided new + length xs ≤ undecided old

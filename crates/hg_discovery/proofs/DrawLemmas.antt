@@ -17,9 +17,9 @@ use Rattle.hg_graph.proofs.GraphLemmas.{get-take, Contains-from_place, place_fro
 use Rattle.hg_graph.proofs.MarkLemmas.{unmarked}
 use Rattle.hg_changeset.proofs.ListLemmas.{Contains-cons_cases, Contains-first, Contains-later, Contains-none}
 use Rattle.hg_changeset.proofs.ListLemmas.{slice_get_some}
-use Rattle.hg_discovery.specs.declared.status.Status.{Status}
-use Rattle.hg_discovery.specs.declared.status.Status.TheVariants.{Undecided, Common, Missing}
-use Rattle.hg_discovery.specs.declared.status.PlacedNode.{PlacedNode}
+use Rattle.hg_discovery.specs.declared.finding.Finding.{Finding}
+use Rattle.hg_discovery.specs.declared.finding.Finding.TheVariants.{Undecided, Common, Missing}
+use Rattle.hg_discovery.specs.declared.finding.PlacedNode.{PlacedNode}
 use Rattle.hg_discovery.specs.Under.{IsOneOf, IsParentAt, IsUnder, IsInOrder}
 use Rattle.hg_discovery.specs.Search.{Search, Is, IsSo, IsHead, IsAscending, Lists, ArePlacedNodes, IsSample, IsSearch}
 use Rattle.hg_discovery.specs.Spread.{IsMarked, AreCovered, MarksPlace}
@@ -29,7 +29,7 @@ use Rattle.hg_discovery.proofs.UnderLemmas.{parent_under, child_on_way}
 -- ---- marks
 
 -- the marks of the parents of the changesets before the place i
-pub record IsCoveredTo (ps : List ParentPlaces) (ds : List Status) (d : Status) (i : ℕ)
+pub record IsCoveredTo (ps : List ParentPlaces) (ds : List Finding) (d : Finding) (i : ℕ)
     (marks : List Bool) : Type 0 where
   pub len : length marks ≡ length ds
   pub each : (k : ℕ) → k < length ds → IsMarked marks k ↔ ((j : ℕ) × (j < i) × IsParentAt ps j k × Is ds d j)
@@ -54,7 +54,7 @@ MarksPlace-then P Q R a b c first next joins = record {
       );
 }
 
-module _ (ps : List ParentPlaces) (ds : List Status) (d : Status) where
+module _ (ps : List ParentPlaces) (ds : List Finding) (d : Finding) where
   pub IsCoveredTo-start : (n : ℕ) → n ≡ length ds → IsCoveredTo ps ds d 0 (replicate n false)
   IsCoveredTo-start n e = record {
     len = length-replicate n false ∙ e;
@@ -150,12 +150,12 @@ module _ (test : PlacedNode → Bool) (limit : ℕ) (old xs : List PlacedNode) (
 
 -- ---- the test
 
-same_decided_itself : (d : Status) → same_decided d d ≡ true
+same_decided_itself : (d : Finding) → same_decided d d ≡ true
 same_decided_itself Undecided = refl
 same_decided_itself Common = refl
 same_decided_itself Missing = refl
 
-from_same_decided : (d e : Status) → same_decided d e ≡ true → d ≡ e
+from_same_decided : (d e : Finding) → same_decided d e ≡ true → d ≡ e
 from_same_decided Undecided Undecided h = refl
 from_same_decided Undecided Common h = absurd (true≢false (sym h))
 from_same_decided Undecided Missing h = absurd (true≢false (sym h))
@@ -166,7 +166,7 @@ from_same_decided Missing Undecided h = absurd (true≢false (sym h))
 from_same_decided Missing Common h = absurd (true≢false (sym h))
 from_same_decided Missing Missing h = refl
 
-from_is_decided : (o : Option Status) (d : Status) → is_decided o d ≡ true → o ≡ Some d
+from_is_decided : (o : Option Finding) (d : Finding) → is_decided o d ≡ true → o ≡ Some d
 from_is_decided None d h = absurd (true≢false (sym h))
 from_is_decided (Some e) d h = ap (λ x. Some x) (from_same_decided e d h)
 
@@ -187,7 +187,7 @@ both_of true false h = absurd (true≢false (sym h))
 both_of false true h = absurd (true≢false (sym h))
 both_of false false h = absurd (true≢false (sym h))
 
-module _ (ds : List Status) (marks : List Bool) (d : Status) (b : Bool) (x : PlacedNode) where
+module _ (ds : List Finding) (marks : List Bool) (d : Finding) (b : Bool) (x : PlacedNode) where
   pub picked : Is ds d x.place → slice_get marks x.place ≡ Some b → is_picked ds marks d b x ≡ true
   picked so mark = (λ i. is_decided (so i) d && is_mark (mark i) b)
       ∙ (λ i. same_decided_itself d i && is_mark_itself b i)
@@ -247,7 +247,7 @@ Contains-take n xs x h =
 abbrev Before : PlacedNode → PlacedNode → Type 0
 Before x y = node_cmp x.node y.node ≡ Less
 
-module _ (s : Search) (so : Status) (marks : List Bool) (order : IsInOrder s.parents)
+module _ (s : Search) (so : Finding) (marks : List Bool) (order : IsInOrder s.parents)
     (placed_nodes : ArePlacedNodes s.decided s.placed_nodes) (covered : AreCovered s.parents s.decided so marks)
     (convex : (k m j : ℕ) → IsUnder s.parents k m → IsUnder s.parents m j → Is s.decided so k → Is s.decided so j
     → Is s.decided so m) where

@@ -7,7 +7,7 @@ use Rattle.hg_changeset.specs.declared.node.Node.{Node}
 use Rattle.hg_changeset.specs.Contents.{Contents}
 use Rattle.hg_graph.specs.Places.{IsAt}
 use Rattle.hg_graph.proofs.WalkLemmas.{taken_one}
-use Rattle.hg_discovery.specs.declared.status.PlacedNode.{PlacedNode}
+use Rattle.hg_discovery.specs.declared.finding.PlacedNode.{PlacedNode}
 use Rattle.hg_discovery.proofs.StartLemmas.{one_placed_node}
 
 module _ (cs : List Contents) (places : List ℕ) (i : ℕ) (l : i < length places) (found : List PlacedNode)

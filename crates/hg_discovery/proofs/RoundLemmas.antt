@@ -16,8 +16,8 @@ use Rattle.hg_graph.proofs.PlaceLemmas.{IsAt-from, place_from_Holds}
 use Rattle.hg_phases.specs.declared.phase.Phase.TheVariants.{Secret}
 use Rattle.hg_phases.specs.State.{State, changesets, IsPhaseOf}
 use Rattle.hg_view.specs.Common.{AreFree}
-use Rattle.hg_discovery.specs.declared.status.Status.TheVariants.{Undecided, Common, Missing}
-use Rattle.hg_discovery.specs.declared.status.PlacedNode.{PlacedNode}
+use Rattle.hg_discovery.specs.declared.finding.Finding.TheVariants.{Undecided, Common, Missing}
+use Rattle.hg_discovery.specs.declared.finding.PlacedNode.{PlacedNode}
 use Rattle.hg_discovery.specs.Under.{IsUnder, IsShapeOf, itself, below}
 use Rattle.hg_discovery.specs.Search.{Search, Is, IsSearch, nodes_of}
 use Rattle.hg_discovery.specs.Answers.{TakesAnswers}

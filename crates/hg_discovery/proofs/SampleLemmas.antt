@@ -8,9 +8,9 @@ use Rattle.std.proofs.lemmas.Option.{none-some, same_Some}
 use Rattle.hg_changeset.proofs.ListLemmas.{slice_get_some}
 use Rattle.hg_graph.specs.declared.graph.ParentPlaces.{ParentPlaces}
 use Rattle.hg_graph.proofs.MarkLemmas.{get-set_same, get-set_other}
-use Rattle.hg_discovery.specs.declared.status.Status.{Status}
-use Rattle.hg_discovery.specs.declared.status.Status.TheVariants.{Undecided}
-use Rattle.hg_discovery.specs.declared.status.PlacedNode.{PlacedNode}
+use Rattle.hg_discovery.specs.declared.finding.Finding.{Finding}
+use Rattle.hg_discovery.specs.declared.finding.Finding.TheVariants.{Undecided}
+use Rattle.hg_discovery.specs.declared.finding.PlacedNode.{PlacedNode}
 use Rattle.hg_discovery.specs.Under.{IsOneOf, IsInOrder}
 use Rattle.hg_discovery.specs.Search.{Search, Is, IsAscending, ArePlacedNodes, IsClosed, IsSample}
 use Rattle.hg_discovery.specs.Spread.{AreCovered, MarksPlace}
@@ -20,12 +20,12 @@ use Rattle.hg_discovery.proofs.DrawLemmas.{IsCoveredTo, IsCoveredTo-start, IsCov
 use Rattle.hg_discovery.proofs.DrawLemmas.{IsCoveredTo-end, MarksPlace-then, heads_are, others_are}
 
 -- the first 200 of the heads and then of the others, by marks
-abbrev pub drawn : List Status → List Bool → List PlacedNode → List PlacedNode
+abbrev pub drawn : List Finding → List Bool → List PlacedNode → List PlacedNode
 drawn ds marks xs = take 200 (filter (is_picked ds marks Undecided false) xs
     ++ filter (is_picked ds marks Undecided true) xs)
 
 -- of placed nodes that ascend that is a sample
-pub drawn_sample : (ps : List ParentPlaces) (ds : List Status) (xs asked : List PlacedNode) → length ds ≡ length ps
+pub drawn_sample : (ps : List ParentPlaces) (ds : List Finding) (xs asked : List PlacedNode) → length ds ≡ length ps
     → IsInOrder ps → IsClosed ps ds → ArePlacedNodes ds xs → IsAscending xs → (marks : List Bool)
     → AreCovered ps ds Undecided marks → asked ≡ drawn ds marks xs
     → IsSample (record { parents = ps; placed_nodes = xs; decided = ds; asked = asked }) asked
@@ -71,7 +71,7 @@ mark_both p old =
     let two = mark_at p.second one.0 in
     (two.0, MarksPlace-then _ _ (IsOneOf p) old one.0 two.0 one.1 two.1 (λ k. (λ h. h, λ h. h)))
 
-module _ (ps : List ParentPlaces) (ds : List Status) (len : length ds ≡ length ps) where
+module _ (ps : List ParentPlaces) (ds : List Finding) (len : length ds ≡ length ps) where
   marks_to : (i : ℕ) → i ≤ length ps → (marks : List Bool) × IsCoveredTo ps ds Undecided i marks
   marks_to zero le = (replicate (length ds) false, IsCoveredTo-start ps ds Undecided (length ds) refl)
   marks_to (suc i) le =

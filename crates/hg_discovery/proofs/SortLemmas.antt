@@ -12,7 +12,7 @@ use Rattle.std.proofs.lemmas.List.Elements.{All-from_recursion, Contains-get_or}
 use Rattle.std.proofs.lemmas.List.Kept.{AllPairs-cons}
 use Rattle.hg_changeset.specs.Node.{node_cmp, node_eq}
 use Rattle.hg_changeset.proofs.NodeLemmas.{node_cmp_exact, same_node}
-use Rattle.hg_discovery.specs.declared.status.PlacedNode.{PlacedNode}
+use Rattle.hg_discovery.specs.declared.finding.PlacedNode.{PlacedNode}
 use Rattle.hg_discovery.specs.Order.{placed_node_cmp}
 use Rattle.hg_discovery.specs.Search.{IsAscending, Lists}
 use Rattle.hg_discovery.proofs.StartLemmas.{one_placed_node}

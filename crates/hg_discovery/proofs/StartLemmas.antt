@@ -20,9 +20,9 @@ use Rattle.hg_phases.specs.State.{State, Held, changesets, rank, IsPhaseOf, IsVa
 use Rattle.hg_phases.specs.Content.{content_of}
 use Rattle.hg_phases.proofs.ContentLemmas.{held_in_content, content-held}
 use Rattle.hg_changeset.proofs.ListLemmas.{Contains-map_from, slice_get_some}
-use Rattle.hg_discovery.specs.declared.status.Status.{Status}
-use Rattle.hg_discovery.specs.declared.status.Status.TheVariants.{Undecided, Common, Missing}
-use Rattle.hg_discovery.specs.declared.status.PlacedNode.{PlacedNode}
+use Rattle.hg_discovery.specs.declared.finding.Finding.{Finding}
+use Rattle.hg_discovery.specs.declared.finding.Finding.TheVariants.{Undecided, Common, Missing}
+use Rattle.hg_discovery.specs.declared.finding.PlacedNode.{PlacedNode}
 use Rattle.hg_discovery.specs.Under.{IsOneOf, IsParentAt, IsShapeOf, IsInOrder}
 use Rattle.hg_discovery.specs.Search.{Is, IsClosed, ArePlacedNodes}
 use Rattle.hg_discovery.specs.Start.{IsShared}
@@ -96,12 +96,12 @@ phase_in_content s graph n k = (
 
 -- ---- undecided at first
 
-pub record AreUndecidedTo (len : ℕ) (xs : List PlacedNode) (ds : List Status) : Type 0 where
+pub record AreUndecidedTo (len : ℕ) (xs : List PlacedNode) (ds : List Finding) : Type 0 where
   pub length_is : length ds ≡ len
   pub undecided : (k : ℕ) → Is ds Undecided k ↔ ((x : PlacedNode) × Contains xs x × (x.place ≡ k))
   pub nothing_common : (k : ℕ) → Is ds Common k → ⊥
 
-all_missing_at : (n k : ℕ) (d : Status) → slice_get (replicate n Missing) k ≡ Some d → d ≡ Missing
+all_missing_at : (n k : ℕ) (d : Finding) → slice_get (replicate n Missing) k ≡ Some d → d ≡ Missing
 all_missing_at zero k d h = absurd (none-some d h)
 all_missing_at (suc n) zero d h = sym (same_Some Missing d h)
 all_missing_at (suc n) (suc k) d h = all_missing_at n k d h
@@ -117,7 +117,7 @@ AreUndecidedTo-start n = record {
   nothing_common = λ k h. let e : Common ≡ Missing = all_missing_at n k Common h in cc;
 }
 
-pub AreUndecidedTo-more : (n i : ℕ) (all : List PlacedNode) (d : PlacedNode) (ds : List Status) → i < length all
+pub AreUndecidedTo-more : (n i : ℕ) (all : List PlacedNode) (d : PlacedNode) (ds : List Finding) → i < length all
     → (get_or all i d).place < n → AreUndecidedTo n (take i all) ds
     → AreUndecidedTo n (take (i + 1) all) (set ds (get_or all i d).place Undecided)
 AreUndecidedTo-more n i all d ds lt within u =
@@ -185,7 +185,7 @@ module _ (s : State) (valid : IsValid s) (ps : List ParentPlaces) (shape : IsSha
           → (h : Held) × Contains t.held h × (h.changeset ≡ d)
       held_with t d h = Contains-map_from (λ (y : Held). y.changeset) t.held d h
 
-  module _ (ds : List Status) (len : length ds ≡ length ps) (undecided : (k : ℕ)
+  module _ (ds : List Finding) (len : length ds ≡ length ps) (undecided : (k : ℕ)
       → Is ds Undecided k ↔ ((x : PlacedNode) × Contains xs x × (x.place ≡ k)))
       (nothing : (k : ℕ) → Is ds Common k → ⊥) where
     undecided_parent : (j k : ℕ) → IsParentAt ps j k → Is ds Undecided j → Is ds Undecided k

@@ -3,9 +3,9 @@ use Rattle.std.proofs.Common.{◌≡◌, ◌⊎◌, ℕ, zero, suc, inl, inr, Bo
 use Rattle.std.proofs.Common.{slice_get, Some, refl, sym, ap, subst, ◌∙◌, arith}
 use Rattle.std.proofs.lemmas.Option.{slice_get_within, none-some, same_Some}
 use Rattle.hg_graph.specs.declared.graph.ParentPlaces.{ParentPlaces}
-use Rattle.hg_discovery.specs.declared.status.Status.{Status}
-use Rattle.hg_discovery.specs.declared.status.Status.TheVariants.{Undecided, Common, Missing}
-use Rattle.hg_discovery.specs.declared.status.PlacedNode.{PlacedNode}
+use Rattle.hg_discovery.specs.declared.finding.Finding.{Finding}
+use Rattle.hg_discovery.specs.declared.finding.Finding.TheVariants.{Undecided, Common, Missing}
+use Rattle.hg_discovery.specs.declared.finding.PlacedNode.{PlacedNode}
 use Rattle.hg_discovery.specs.Under.{IsUnder, IsInOrder, itself}
 use Rattle.hg_discovery.specs.Search.{Is, IsClosed, ArePlacedNodes}
 use Rattle.hg_discovery.specs.Answers.{TakesAnswer, TakesAnswers}
@@ -13,17 +13,18 @@ use Rattle.hg_discovery.proofs.UnderLemmas.{not_both_uc, not_both_um, not_both_c
 use Rattle.hg_discovery.proofs.ClosedLemmas.{decided_closed}
 
 module _ (ps : List ParentPlaces) where
-  pub told_len : (k : ℕ) (said : Bool) (old new : List Status) → TakesAnswer ps k said old new → length new ≡ length old
+  pub told_len : (k : ℕ) (said : Bool) (old new : List Finding) → TakesAnswer ps k said old new
+      → length new ≡ length old
   told_len k said old new (inl d) = d.1.len
   told_len k said old new (inr e) = ap length e.1
 
-  pub told_closed : (k : ℕ) (said : Bool) (old new : List Status) → length old ≡ length ps → IsInOrder ps
+  pub told_closed : (k : ℕ) (said : Bool) (old new : List Finding) → length old ≡ length ps → IsInOrder ps
       → IsClosed ps old → TakesAnswer ps k said old new → IsClosed ps new
   told_closed k said old new len order closed (inl d) = decided_closed ps k said old new len order closed d.1
   told_closed k said old new len order closed (inr e) = subst (IsClosed ps) (sym e.1) closed
 
   -- what is undecided was so before
-  pub told_before : (k : ℕ) (said : Bool) (old new : List Status) → TakesAnswer ps k said old new → (j : ℕ)
+  pub told_before : (k : ℕ) (said : Bool) (old new : List Finding) → TakesAnswer ps k said old new → (j : ℕ)
       → Is new Undecided j → Is old Undecided j
   told_before k said old new (inr e) j h = subst (λ ds. Is ds Undecided j) e.1 h
   told_before k said old new (inl d) j h =
@@ -36,7 +37,7 @@ module _ (ps : List ParentPlaces) where
       ]
 
   -- what was asked about is decided
-  pub told_decides : (k : ℕ) (said : Bool) (old new : List Status) → TakesAnswer ps k said old new
+  pub told_decides : (k : ℕ) (said : Bool) (old new : List Finding) → TakesAnswer ps k said old new
       → Is new Undecided k → ⊥
   told_decides k true old new (inl d) h = not_both_uc new k h ((d.1.common k).1 (inr (refl, d.0, itself)))
   told_decides k false old new (inl d) h = not_both_um new k h ((d.1.missing k).1 (inr (refl, d.0, itself)))
@@ -44,14 +45,14 @@ module _ (ps : List ParentPlaces) where
 
   -- what is so of the common ones, and of all below a yes, stays so
   pub told_common : (P : ℕ → Type 0) → ((k j : ℕ) → IsUnder ps k j → P j → P k)
-      → (k : ℕ) (said : Bool) (old new : List Status) → TakesAnswer ps k said old new → (said ≡ true → P k)
+      → (k : ℕ) (said : Bool) (old new : List Finding) → TakesAnswer ps k said old new → (said ≡ true → P k)
       → ((j : ℕ) → Is old Common j → P j) → (j : ℕ) → Is new Common j → P j
   told_common P down k said old new (inr e) at was j h = was j (subst (λ ds. Is ds Common j) e.1 h)
   told_common P down k said old new (inl d) at was j h = elim
       ((d.1.common j).0 h) [ inl o ↦ was j o | inr u ↦ down j k u.2 (at u.0) ]
 
   pub told_missing : (Q : ℕ → Type 0) → ((k j : ℕ) → IsUnder ps k j → Q k → Q j)
-      → (k : ℕ) (said : Bool) (old new : List Status) → TakesAnswer ps k said old new → (said ≡ false → Q k)
+      → (k : ℕ) (said : Bool) (old new : List Finding) → TakesAnswer ps k said old new → (said ≡ false → Q k)
       → ((j : ℕ) → Is old Missing j → Q j) → (j : ℕ) → Is new Missing j → Q j
   told_missing Q up k said old new (inr e) at was j h = was j (subst (λ ds. Is ds Missing j) e.1 h)
   told_missing Q up k said old new (inl d) at was j h = elim ((d.1.missing j).0 h)
@@ -61,7 +62,7 @@ module _ (ps : List ParentPlaces) where
 
 pub TakesAnswers-more : (ps : List ParentPlaces) (xs : List PlacedNode) (answers : List Bool) (x : PlacedNode)
     (said : Bool)
-    (old mid new : List Status) → TakesAnswers ps xs answers old mid → TakesAnswer ps x.place said mid new
+    (old mid new : List Finding) → TakesAnswers ps xs answers old mid → TakesAnswer ps x.place said mid new
     → TakesAnswers ps (xs ++ x ∷ []) (answers ++ said ∷ []) old new
 TakesAnswers-more ps [] [] x said old mid new so next =
     (new, subst (λ ds. TakesAnswer ps x.place said ds new) so next, refl)
@@ -70,7 +71,7 @@ TakesAnswers-more ps (y ∷ xs) (b ∷ answers) x said old mid new so next =
 TakesAnswers-more ps [] (b ∷ answers) x said old mid new so next = absurd so
 TakesAnswers-more ps (y ∷ xs) [] x said old mid new so next = absurd so
 
-pub told_length : (ps : List ParentPlaces) (xs : List PlacedNode) (answers : List Bool) (old new : List Status)
+pub told_length : (ps : List ParentPlaces) (xs : List PlacedNode) (answers : List Bool) (old new : List Finding)
     → TakesAnswers ps xs answers old new → length new ≡ length old
 told_length ps [] [] old new e = ap length e
 told_length ps (x ∷ xs) (b ∷ answers) old new t = told_length ps xs answers t.0 new t.2
@@ -79,12 +80,12 @@ told_length ps [] (b ∷ answers) old new t = absurd t
 told_length ps (x ∷ xs) [] old new t = absurd t
 
 -- what is missing stays so
-told_kept : (ps : List ParentPlaces) (k : ℕ) (said : Bool) (old new : List Status) → TakesAnswer ps k said old new
+told_kept : (ps : List ParentPlaces) (k : ℕ) (said : Bool) (old new : List Finding) → TakesAnswer ps k said old new
     → (j : ℕ) → Is old Missing j → Is new Missing j
 told_kept ps k said old new (inl d) j h = (d.1.missing j).1 (inl h)
 told_kept ps k said old new (inr e) j h = subst (λ ds. Is ds Missing j) (sym e.1) h
 
-pub all_missing_kept : (ps : List ParentPlaces) (xs : List PlacedNode) (answers : List Bool) (old new : List Status)
+pub all_missing_kept : (ps : List ParentPlaces) (xs : List PlacedNode) (answers : List Bool) (old new : List Finding)
     → TakesAnswers ps xs answers old new → (j : ℕ) → Is old Missing j → Is new Missing j
 all_missing_kept ps [] [] old new e j h = subst (λ ds. Is ds Missing j) (sym e) h
 all_missing_kept ps (x ∷ xs) (b ∷ answers) old new t j h = all_missing_kept ps xs answers t.0 new t.2 j
@@ -93,7 +94,7 @@ all_missing_kept ps [] (b ∷ answers) old new t j h = absurd t
 all_missing_kept ps (x ∷ xs) [] old new t j h = absurd t
 
 -- what answers leave is closed
-pub all_closed : (ps : List ParentPlaces) (xs : List PlacedNode) (answers : List Bool) (old new : List Status)
+pub all_closed : (ps : List ParentPlaces) (xs : List PlacedNode) (answers : List Bool) (old new : List Finding)
     → length old ≡ length ps → IsInOrder ps → IsClosed ps old → TakesAnswers ps xs answers old new → IsClosed ps new
 all_closed ps [] [] old new len order closed e = subst (IsClosed ps) (sym e) closed
 all_closed ps (x ∷ xs) (b ∷ answers) old new len order closed t =
@@ -104,7 +105,7 @@ all_closed ps (x ∷ xs) [] old new len order closed t = absurd t
 
 -- the placed nodes stay
 pub placed_nodes_after : (ps : List ParentPlaces) (asked : List PlacedNode) (answers : List Bool)
-    (old new : List Status)
+    (old new : List Finding)
     (xs : List PlacedNode) → TakesAnswers ps asked answers old new → ArePlacedNodes old xs → ArePlacedNodes new xs
 placed_nodes_after ps asked answers old new xs told placed_nodes = record {
   distinct = placed_nodes.distinct;
@@ -121,14 +122,14 @@ placed_nodes_after ps asked answers old new xs told placed_nodes = record {
     len : length new ≡ length old
     len = told_length ps asked answers old new told
 
-    before : (k : ℕ) (d : Status) → Is new d k → (Is new Missing k → ⊥) → Is old Undecided k ⊎ Is old Common k
+    before : (k : ℕ) (d : Finding) → Is new d k → (Is new Missing k → ⊥) → Is old Undecided k ⊎ Is old Common k
     before k d h never = elim (three old k (omega (arith, len, slice_get_within new k d h))) [
       | inl u ↦ inl u
       | inr e ↦ elim e [ inl c ↦ inr c | inr m ↦ absurd (never (all_missing_kept ps asked answers old new told k m)) ]
     ]
 
 -- all who were asked about are decided
-all_before : (ps : List ParentPlaces) (xs : List PlacedNode) (answers : List Bool) (old new : List Status)
+all_before : (ps : List ParentPlaces) (xs : List PlacedNode) (answers : List Bool) (old new : List Finding)
     → TakesAnswers ps xs answers old new → (j : ℕ) → Is new Undecided j → Is old Undecided j
 all_before ps [] [] old new e j h = subst (λ ds. Is ds Undecided j) e h
 all_before ps (x ∷ xs) (b ∷ answers) old new t j h = told_before ps x.place b old t.0 t.1 j
@@ -136,11 +137,11 @@ all_before ps (x ∷ xs) (b ∷ answers) old new t j h = told_before ps x.place 
 all_before ps [] (b ∷ answers) old new t j h = absurd t
 all_before ps (x ∷ xs) [] old new t j h = absurd t
 
-pub undecided_before : (ps : List ParentPlaces) (xs : List PlacedNode) (answers : List Bool) (old new : List Status)
+pub undecided_before : (ps : List ParentPlaces) (xs : List PlacedNode) (answers : List Bool) (old new : List Finding)
     → TakesAnswers ps xs answers old new → (j : ℕ) → Is new Undecided j → Is old Undecided j
 undecided_before = all_before
 
-pub all_decided : (ps : List ParentPlaces) (xs : List PlacedNode) (answers : List Bool) (old new : List Status)
+pub all_decided : (ps : List ParentPlaces) (xs : List PlacedNode) (answers : List Bool) (old new : List Finding)
     → TakesAnswers ps xs answers old new → (i : ℕ) (x : PlacedNode) → slice_get xs i ≡ Some x
     → Is new Undecided x.place → ⊥
 all_decided ps [] [] old new e i x at h = none-some x at
@@ -154,7 +155,7 @@ all_decided ps (x ∷ xs) [] old new t i y at h = absurd t
 -- ---- all answers of a round
 
 pub all_common : (ps : List ParentPlaces) (P : ℕ → Type 0) → ((k j : ℕ) → IsUnder ps k j → P j → P k)
-    → (xs : List PlacedNode) (answers : List Bool) (old new : List Status) → TakesAnswers ps xs answers old new
+    → (xs : List PlacedNode) (answers : List Bool) (old new : List Finding) → TakesAnswers ps xs answers old new
     → ((i : ℕ) (x : PlacedNode) → slice_get xs i ≡ Some x → slice_get answers i ≡ Some true → P x.place)
     → ((j : ℕ) → Is old Common j → P j) → (j : ℕ) → Is new Common j → P j
 all_common ps P down [] [] old new e at was j h = was j (subst (λ ds. Is ds Common j) e h)
@@ -165,7 +166,7 @@ all_common ps P down [] (b ∷ answers) old new t at was j h = absurd t
 all_common ps P down (x ∷ xs) [] old new t at was j h = absurd t
 
 pub all_missing : (ps : List ParentPlaces) (Q : ℕ → Type 0) → ((k j : ℕ) → IsUnder ps k j → Q k → Q j)
-    → (xs : List PlacedNode) (answers : List Bool) (old new : List Status) → TakesAnswers ps xs answers old new
+    → (xs : List PlacedNode) (answers : List Bool) (old new : List Finding) → TakesAnswers ps xs answers old new
     → ((i : ℕ) (x : PlacedNode) → slice_get xs i ≡ Some x → slice_get answers i ≡ Some false → Q x.place)
     → ((j : ℕ) → Is old Missing j → Q j) → (j : ℕ) → Is new Missing j → Q j
 all_missing ps Q up [] [] old new e at was j h = was j (subst (λ ds. Is ds Missing j) e h)

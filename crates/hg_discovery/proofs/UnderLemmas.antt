@@ -4,29 +4,29 @@ use Rattle.std.proofs.Common.{arith}
 use Rattle.std.proofs.lemmas.Option.{same_Some, slice_get_within}
 use Rattle.hg_graph.specs.declared.graph.ParentPlaces.{ParentPlaces}
 use Rattle.hg_changeset.proofs.ListLemmas.{slice_get_some}
-use Rattle.hg_discovery.specs.declared.status.Status.{Status}
-use Rattle.hg_discovery.specs.declared.status.Status.TheVariants.{Undecided, Common, Missing}
+use Rattle.hg_discovery.specs.declared.finding.Finding.{Finding}
+use Rattle.hg_discovery.specs.declared.finding.Finding.TheVariants.{Undecided, Common, Missing}
 use Rattle.hg_discovery.specs.Under.{IsParentAt, IsUnder, IsInOrder, itself, below}
 use Rattle.hg_discovery.specs.Search.{Is, IsClosed}
 
 -- ---- what is decided
 
-pub not_both_uc : (ds : List Status) (k : ℕ) → Is ds Undecided k → Is ds Common k → ⊥
+pub not_both_uc : (ds : List Finding) (k : ℕ) → Is ds Undecided k → Is ds Common k → ⊥
 not_both_uc ds k a b = let e : Undecided ≡ Common = same_Some Undecided Common (sym a ∙ b) in cc
 
-pub not_both_um : (ds : List Status) (k : ℕ) → Is ds Undecided k → Is ds Missing k → ⊥
+pub not_both_um : (ds : List Finding) (k : ℕ) → Is ds Undecided k → Is ds Missing k → ⊥
 not_both_um ds k a b = let e : Undecided ≡ Missing = same_Some Undecided Missing (sym a ∙ b) in cc
 
-pub not_both_cm : (ds : List Status) (k : ℕ) → Is ds Common k → Is ds Missing k → ⊥
+pub not_both_cm : (ds : List Finding) (k : ℕ) → Is ds Common k → Is ds Missing k → ⊥
 not_both_cm ds k a b = let e : Common ≡ Missing = same_Some Common Missing (sym a ∙ b) in cc
 
-one_of : (ds : List Status) (k : ℕ) (d : Status) → slice_get ds k ≡ Some d
+one_of : (ds : List Finding) (k : ℕ) (d : Finding) → slice_get ds k ≡ Some d
     → Is ds Undecided k ⊎ (Is ds Common k ⊎ Is ds Missing k)
 one_of ds k Undecided e = inl e
 one_of ds k Common e = inr (inl e)
 one_of ds k Missing e = inr (inr e)
 
-pub three : (ds : List Status) (k : ℕ) → k < length ds → Is ds Undecided k ⊎ (Is ds Common k ⊎ Is ds Missing k)
+pub three : (ds : List Finding) (k : ℕ) → k < length ds → Is ds Undecided k ⊎ (Is ds Common k ⊎ Is ds Missing k)
 three ds k l = let d = slice_get_some ds k l in one_of ds k d.0 d.1
 
 -- ---- ancestors
@@ -59,7 +59,7 @@ parent_within ps order j k q = (order j k q, slice_get_within ps j q.0 q.1)
 
 -- ---- closed decisions
 
-module _ (ps : List ParentPlaces) (ds : List Status) (closed : IsClosed ps ds) where
+module _ (ps : List ParentPlaces) (ds : List Finding) (closed : IsClosed ps ds) where
   pub under_common : (k j : ℕ) → IsUnder ps k j → Is ds Common j → Is ds Common k
   under_common k j itself h = h
   under_common k j (below {p = p} u q) h = under_common k p u (closed.common j p q h)

@@ -10,8 +10,8 @@ use Rattle.hg_changeset.proofs.ListLemmas.{Contains-first, Contains-none, Contai
 use Rattle.hg_graph.specs.declared.graph.ParentPlaces.{ParentPlaces}
 use Rattle.hg_graph.proofs.GraphLemmas.{Contains-from_place, place_from_Contains}
 use Rattle.hg_graph.proofs.MarkLemmas.{get-set_same, get-set_other}
-use Rattle.hg_discovery.specs.declared.status.Status.{Status}
-use Rattle.hg_discovery.specs.declared.status.Status.TheVariants.{Undecided, Common, Missing}
+use Rattle.hg_discovery.specs.declared.finding.Finding.{Finding}
+use Rattle.hg_discovery.specs.declared.finding.Finding.TheVariants.{Undecided, Common, Missing}
 use Rattle.hg_discovery.specs.Under.{IsOneOf, IsParentAt, IsUnder, IsInOrder, itself, below}
 use Rattle.hg_discovery.specs.Search.{Is, IsClosed}
 use Rattle.hg_discovery.specs.Answers.{IsDecided}
@@ -36,8 +36,8 @@ append_behind (y ∷ xs) ys (suc m) x le h = append_behind xs ys m x (omega (ari
 
 -- ---- what a step decides
 
-module _ (d : Status) where
-  pub Grows-none : (P : ℕ → Type 0) (old : List Status) (queue : List ℕ) → Grows P d old queue old queue
+module _ (d : Finding) where
+  pub Grows-none : (P : ℕ → Type 0) (old : List Finding) (queue : List ℕ) → Grows P d old queue old queue
   Grows-none P old queue = record {
     more = [];
     longer = sym (append-nil queue);
@@ -47,7 +47,7 @@ module _ (d : Status) where
     count = refl;
   }
 
-  pub Grows-one : d ≢ Undecided → (p : ℕ) (old : List Status) (queue : List ℕ) → Is old Undecided p
+  pub Grows-one : d ≢ Undecided → (p : ℕ) (old : List Finding) (queue : List ℕ) → Is old Undecided p
       → Grows (λ k. p ≡ k) d old queue (set old p d) (queue ++ p ∷ [])
   Grows-one decided p old queue at = record {
     more = p ∷ [];
@@ -70,7 +70,7 @@ module _ (d : Status) where
       now : Is (set old p d) d p
       now = get-set_same old p d (slice_get_within old p Undecided at)
 
-  pub Grows-wider : (P Q : ℕ → Type 0) (a b : List Status) (k l : List ℕ) → ((q : ℕ) → P q → Q q) → Grows P d a k b l
+  pub Grows-wider : (P Q : ℕ → Type 0) (a b : List Finding) (k l : List ℕ) → ((q : ℕ) → P q → Q q) → Grows P d a k b l
       → Grows Q d a k b l
   Grows-wider P Q a b k l wide g = record {
     more = g.more;
@@ -81,10 +81,11 @@ module _ (d : Status) where
     count = g.count;
   }
 
-  pub Grows-so : (P : ℕ → Type 0) (a b : List Status) (k l : List ℕ) → Grows P d a k b l → (q : ℕ) → Is a d q → Is b d q
+  pub Grows-so : (P : ℕ → Type 0) (a b : List Finding) (k l : List ℕ) → Grows P d a k b l → (q : ℕ) → Is a d q
+      → Is b d q
   Grows-so P a b k l g q h = elim (g.changed q) [ inl s ↦ s ∙ h | inr f ↦ f.1 ]
 
-  pub Grows-kept : (P : ℕ → Type 0) (a b : List Status) (k l : List ℕ) → Grows P d a k b l → (e : Status) (q : ℕ)
+  pub Grows-kept : (P : ℕ → Type 0) (a b : List Finding) (k l : List ℕ) → Grows P d a k b l → (e : Finding) (q : ℕ)
       → e ≢ Undecided → Is a e q → Is b e q
   Grows-kept P a b k l g e q ne h = elim (g.changed q) [
     | inl s ↦ s ∙ h
@@ -92,7 +93,7 @@ module _ (d : Status) where
         absurd (ne (same_Some e Undecided (sym h ∙ f.0)))
   ]
 
-  pub Grows-from : (P : ℕ → Type 0) (a b : List Status) (k l : List ℕ) → Grows P d a k b l → (e : Status) (q : ℕ)
+  pub Grows-from : (P : ℕ → Type 0) (a b : List Finding) (k l : List ℕ) → Grows P d a k b l → (e : Finding) (q : ℕ)
       → e ≢ d → Is b e q → Is a e q
   Grows-from P a b k l g e q ne h = elim (g.changed q) [
     | inl s ↦ sym s ∙ h
@@ -100,7 +101,7 @@ module _ (d : Status) where
         absurd (ne (same_Some e d (sym h ∙ f.1)))
   ]
 
-  pub Grows-then : (P : ℕ → Type 0) (a b c : List Status) (k l m : List ℕ) → Grows P d a k b l → Grows P d b l c m
+  pub Grows-then : (P : ℕ → Type 0) (a b c : List Finding) (k l m : List ℕ) → Grows P d a k b l → Grows P d b l c m
       → Grows P d a k c m
   Grows-then P a b c k l m first second = record {
     more = first.more ++ second.more;
@@ -123,7 +124,7 @@ module _ (d : Status) where
       before : (q : ℕ) → Is b Undecided q → Is a Undecided q
       before q u = elim (first.changed q) [ inl s ↦ sym s ∙ u | inr h ↦ h.0 ]
 
-  pub AreTaken-then : (P Q R : ℕ → Type 0) (a b c : List Status) (k l m : List ℕ) → Grows P d a k b l
+  pub AreTaken-then : (P Q R : ℕ → Type 0) (a b c : List Finding) (k l m : List ℕ) → Grows P d a k b l
       → Grows Q d b l c m → AreTaken P d a b → AreTaken Q d b c → ((q : ℕ) → R q → P q ⊎ Q q) → AreTaken R d a c
   AreTaken-then P Q R a b c k l m first second one two joins q r u = elim (joins q r) [
     | inl p ↦ Grows-so Q b c l m second q (one q p u)
@@ -133,16 +134,16 @@ module _ (d : Status) where
 -- ---- a walk
 
 -- E leads from what is decided to what is decided with it; what was queued from the place `next` on waits for it
-pub record IsWalked (d : Status) (E : ℕ → ℕ → Type 0) (P : ℕ → Type 0) (place : ℕ) (old : List Status)
-    (start : List ℕ) (now : List Status) (queue : List ℕ) (next : ℕ) : Type 0 where
+pub record IsWalked (d : Finding) (E : ℕ → ℕ → Type 0) (P : ℕ → Type 0) (place : ℕ) (old : List Finding)
+    (start : List ℕ) (now : List Finding) (queue : List ℕ) (next : ℕ) : Type 0 where
   pub grows : Grows P d old start now queue
   pub begun : Is now d place
   pub from : length start ≤ next
   pub followed : (j k : ℕ) → E j k → Is now d j → Is now d k ⊎ ((i : ℕ) × (next ≤ i) × (slice_get queue i ≡ Some j))
 
-module _ (d : Status) (E : ℕ → ℕ → Type 0) (P : ℕ → Type 0) (place : ℕ) (old : List Status) (start : List ℕ)
+module _ (d : Finding) (E : ℕ → ℕ → Type 0) (P : ℕ → Type 0) (place : ℕ) (old : List Finding) (start : List ℕ)
     (closed : (j k : ℕ) → E j k → Is old d j → Is old d k) where
-  pub IsWalked-start : (now : List Status) (queue : List ℕ) → Is old Undecided place → P place
+  pub IsWalked-start : (now : List Finding) (queue : List ℕ) → Is old Undecided place → P place
       → Grows (λ k. place ≡ k) d old start now queue → AreTaken (λ k. place ≡ k) d old now
       → IsWalked d E P place old start now queue (length start)
   IsWalked-start now queue at p g taken = record {
@@ -158,24 +159,24 @@ module _ (d : Status) (E : ℕ → ℕ → Type 0) (P : ℕ → Type 0) (place :
     ];
   }
 
-  pub IsWalked-end : (now : List Status) (queue : List ℕ) (next : ℕ) → IsWalked d E P place old start now queue next
+  pub IsWalked-end : (now : List Finding) (queue : List ℕ) (next : ℕ) → IsWalked d E P place old start now queue next
       → length queue ≤ next → (j k : ℕ) → E j k → Is now d j → Is now d k
   IsWalked-end now queue next w le j k e h = elim (w.followed j k e h)
       [ inl so ↦ so | inr p ↦ absurd (omega (arith, le, p.1, slice_get_within queue p.0 j p.2)) ]
 
   module _ (step : (j k : ℕ) → E j k → P j → P k) (free : (j k : ℕ) → E j k → Is old Undecided j
-      → Is old d k ⊎ Is old Undecided k) (now : List Status) (queue : List ℕ) (next : ℕ)
+      → Is old d k ⊎ Is old Undecided k) (now : List Finding) (queue : List ℕ) (next : ℕ)
       (w : IsWalked d E P place old start now queue next) (one : ℕ) (at : slice_get queue next ≡ Some one) where
     pub waited : Is old Undecided one × Is now d one × P one
     waited = w.grows.queued one (append_behind start w.grows.more next one w.from
         (subst (λ xs. slice_get xs next ≡ Some one) w.grows.longer at))
 
-    pub IsWalked-grows : (new : List Status) (after : List ℕ) → Grows (E one) d now queue new after
+    pub IsWalked-grows : (new : List Finding) (after : List ℕ) → Grows (E one) d now queue new after
         → Grows P d old start new after
     IsWalked-grows new after g = Grows-then d P old now new start queue after w.grows
         (Grows-wider d (E one) P now new queue after (λ k e. step one k e waited.2) g)
 
-    pub IsWalked-step : (new : List Status) (after : List ℕ) → Grows (E one) d now queue new after
+    pub IsWalked-step : (new : List Finding) (after : List ℕ) → Grows (E one) d now queue new after
         → AreTaken (E one) d now new → IsWalked d E P place old start new after (next + 1)
     IsWalked-step new after g taken = record {
       grows = IsWalked-grows new after g;
@@ -226,7 +227,7 @@ ToChild ps j k = IsParentAt ps k j
 abbrev pub Below : List ParentPlaces → ℕ → ℕ → Type 0
 Below ps place k = IsUnder ps k place
 
-module _ (ps : List ParentPlaces) (old : List Status) (len : length old ≡ length ps) (order : IsInOrder ps)
+module _ (ps : List ParentPlaces) (old : List Finding) (len : length old ≡ length ps) (order : IsInOrder ps)
     (closed : IsClosed ps old) where
   pub up_free : (j k : ℕ) → IsParentAt ps j k → Is old Undecided j → Is old Common k ⊎ Is old Undecided k
   up_free j k q u = elim (three old k (omega (arith, slice_get_within old j Undecided u, order j k q))) [
@@ -261,8 +262,8 @@ reach_down : (ps : List ParentPlaces) (Q : ℕ → Type 0) → ((j k : ℕ) → 
 reach_down ps Q step k j itself h = h
 reach_down ps Q step k j (below {p = p} u q) h = step p j q (reach_down ps Q step k p u h)
 
-module _ (ps : List ParentPlaces) (place : ℕ) (old : List Status) (start : List ℕ) (closed : IsClosed ps old)
-    (now : List Status) (queue : List ℕ) (next : ℕ) (le : length queue ≤ next) where
+module _ (ps : List ParentPlaces) (place : ℕ) (old : List Finding) (start : List ℕ) (closed : IsClosed ps old)
+    (now : List Finding) (queue : List ℕ) (next : ℕ) (le : length queue ≤ next) where
   pub walked_common : IsWalked Common (ToParent ps) (Below ps place) place old start now queue next
       → IsDecided ps place true old now
   walked_common w = record {
@@ -322,7 +323,7 @@ module _ (cs : List ℕ) (from i x : ℕ) (at : slice_get cs i ≡ Some x) (le :
     | inr ne ↦ inl (h.0, h.1, omega (arith, h.2, ne), h.3)
   ]
 
-  module _ (d : Status) (a b c : List Status) (k l m : List ℕ) (first : Grows (Stands cs from i) d a k b l)
+  module _ (d : Finding) (a b c : List Finding) (k l m : List ℕ) (first : Grows (Stands cs from i) d a k b l)
       (second : Grows (λ q. x ≡ q) d b l c m) where
     pub stretch_grows : Grows (Stands cs from (i + 1)) d a k c m
     stretch_grows = Grows-then d (Stands cs from (i + 1)) a b c k l m
@@ -339,7 +340,7 @@ stands_in cs from i to k le h = (h.0, h.1, omega (arith, h.2, le), h.3)
 
 -- ---- what stands next
 
-module _ (d : Status) (ps : List ParentPlaces) (one : ℕ) (a b : List Status) (k l : List ℕ) where
+module _ (d : Finding) (ps : List ParentPlaces) (one : ℕ) (a b : List Finding) (k l : List ℕ) where
   module _ (p : ParentPlaces) (at : slice_get ps one ≡ Some p) where
     pub parents_grow : Grows (IsOneOf p) d a k b l → Grows (ToParent ps one) d a k b l
     parents_grow g = Grows-wider d (IsOneOf p) (ToParent ps one) a b k l (λ q h. (p, at, h)) g
@@ -360,8 +361,8 @@ module _ (d : Status) (ps : List ParentPlaces) (one : ℕ) (a b : List Status) (
 pub read : {X : Type 0} (xs : List X) (i : ℕ) (x : X) → i < length xs → x ≡ get_or xs i x → slice_get xs i ≡ Some x
 read xs i x l e = slice_get-get_or xs i x l ∙ ap (λ y. Some y) (sym e)
 
-module _ (ps : List ParentPlaces) (old : List Status) (len : length old ≡ length ps) (order : IsInOrder ps)
-    (closed : IsClosed ps old) (place : ℕ) (start : List ℕ) (now : List Status) (queue : List ℕ) (next one : ℕ)
+module _ (ps : List ParentPlaces) (old : List Finding) (len : length old ≡ length ps) (order : IsInOrder ps)
+    (closed : IsClosed ps old) (place : ℕ) (start : List ℕ) (now : List Finding) (queue : List ℕ) (next one : ℕ)
     (at : slice_get queue next ≡ Some one) where
   module _ (w : IsWalked Common (ToParent ps) (Below ps place) place old start now queue next) where
     pub up_within : one < length ps
@@ -370,7 +371,7 @@ module _ (ps : List ParentPlaces) (old : List Status) (len : length old ≡ leng
         (up_free ps old len order closed) now queue next w one at in
         omega (arith, len, slice_get_within old one Undecided was.0)
 
-    module _ (p : ParentPlaces) (at_one : slice_get ps one ≡ Some p) (new : List Status) (after : List ℕ)
+    module _ (p : ParentPlaces) (at_one : slice_get ps one ≡ Some p) (new : List Finding) (after : List ℕ)
         (g : Grows (IsOneOf p) Common now queue new after) where
       pub up_walked : AreTaken (IsOneOf p) Common now new → IsWalked Common (ToParent ps)
           (Below ps place) place old start new after (next + 1)
@@ -391,7 +392,7 @@ module _ (ps : List ParentPlaces) (old : List Status) (len : length old ≡ leng
         omega (arith, len, slice_get_within old one Undecided was.0)
 
     module _ (places : List ℕ) (stretches : List Stretch) (children : AreChildren ps places stretches) (s : Stretch)
-        (at_one : slice_get stretches one ≡ Some s) (new : List Status) (after : List ℕ)
+        (at_one : slice_get stretches one ≡ Some s) (new : List Finding) (after : List ℕ)
         (g : Grows (Stands places s.from s.to) Missing now queue new after) where
       pub down_walked : AreTaken (Stands places s.from s.to) Missing now new
           → IsWalked Missing (ToChild ps) (IsUnder ps place) place old start new after (next + 1)

@@ -13,9 +13,9 @@ use Rattle.hg_phases.specs.State.{State}
 use Rattle.hg_replica.specs.State.{ReplicaState}
 use Rattle.hg_replica.specs.Content.{content_of}
 use Rattle.hg_view.specs.Pins.{IsServedUnder}
-use Rattle.hg_discovery.specs.declared.status.Status.{Status}
-use Rattle.hg_discovery.specs.declared.status.Status.TheVariants.{Undecided, Common, Missing}
-use Rattle.hg_discovery.specs.declared.status.PlacedNode.{PlacedNode}
+use Rattle.hg_discovery.specs.declared.finding.Finding.{Finding}
+use Rattle.hg_discovery.specs.declared.finding.Finding.TheVariants.{Undecided, Common, Missing}
+use Rattle.hg_discovery.specs.declared.finding.PlacedNode.{PlacedNode}
 use Rattle.hg_discovery.specs.Under.{IsOneOf, IsParentAt, IsUnder, IsInOrder, itself, below}
 use Rattle.hg_discovery.specs.Search.{Search, Is, IsAscending, IsHead, IsSample, Lists, IsSearch, IsClosed}
 use Rattle.hg_discovery.specs.Search.{ArePlacedNodes}
@@ -92,7 +92,7 @@ module _ (ps : List ParentPlaces) (order : IsInOrder ps) (k : ℕ) where
 
 -- ---- what an answer decides
 
-pub undecided_or_not : (ds : List Status) (k : ℕ) → Is ds Undecided k ⊎ (Is ds Undecided k → ⊥)
+pub undecided_or_not : (ds : List Finding) (k : ℕ) → Is ds Undecided k ⊎ (Is ds Undecided k → ⊥)
 undecided_or_not ds k = elim (cases_lt k (length ds)) [
   | inl l ↦ elim (three ds k l) [
     | inl u ↦ inl u
@@ -102,11 +102,12 @@ undecided_or_not ds k = elim (cases_lt k (length ds)) [
 ]
 
 -- undecided ones of which R holds are decided so
-module _ (old : List Status) (R : ℕ → Type 0) (can : (j : ℕ) → R j ⊎ (R j → ⊥)) (d : Status) (so : d ≢ Undecided) where
+module _ (old : List Finding) (R : ℕ → Type 0) (can : (j : ℕ) → R j ⊎ (R j → ⊥)) (d : Finding)
+    (so : d ≢ Undecided) where
   -- of the places before i
-  record IsSetTo (i : ℕ) (new : List Status) : Type 0 where
+  record IsSetTo (i : ℕ) (new : List Finding) : Type 0 where
     pub len : length new ≡ length old
-    pub each : (j : ℕ) (e : Status) → e ≢ Undecided
+    pub each : (j : ℕ) (e : Finding) → e ≢ Undecided
         → Is new e j ↔ (Is old e j ⊎ ((j < i) × Is old Undecided j × R j × (e ≡ d)))
 
   set_start : IsSetTo 0 old
@@ -115,7 +116,7 @@ module _ (old : List Status) (R : ℕ → Type 0) (can : (j : ℕ) → R j ⊎ (
     each = λ j e ne. (λ h. inl h, λ h. elim h [ inl o ↦ o | inr r ↦ absurd (omega (arith, r.0)) ]);
   }
 
-  set_skip : (i : ℕ) (new : List Status) → IsSetTo i new → (Is old Undecided i → R i → ⊥) → IsSetTo (i + 1) new
+  set_skip : (i : ℕ) (new : List Finding) → IsSetTo i new → (Is old Undecided i → R i → ⊥) → IsSetTo (i + 1) new
   set_skip i new so_far never = record {
     len = so_far.len;
     each = λ j e ne. (
@@ -130,7 +131,7 @@ module _ (old : List Status) (R : ℕ → Type 0) (can : (j : ℕ) → R j ⊎ (
     );
   }
 
-  set_one : (i : ℕ) (new : List Status) → IsSetTo i new → Is old Undecided i → R i → IsSetTo (i + 1) (set new i d)
+  set_one : (i : ℕ) (new : List Finding) → IsSetTo i new → Is old Undecided i → R i → IsSetTo (i + 1) (set new i d)
   set_one i new so_far u r =
       let here : Is (set new i d) d i = get-set_same new i d (omega
       (arith, so_far.len, slice_get_within old i Undecided u)) in
@@ -158,12 +159,12 @@ module _ (old : List Status) (R : ℕ → Type 0) (can : (j : ℕ) → R j ⊎ (
         ];
       }
 
-  set_to : (i : ℕ) → (new : List Status) × IsSetTo i new
+  set_to : (i : ℕ) → (new : List Finding) × IsSetTo i new
   set_to zero = (old, set_start)
   set_to (suc i) =
       let before = set_to i in
       let next : i + 1 ≡ suc i = omega arith in
-      let skipped : (Is old Undecided i → R i → ⊥) → (new : List Status) × IsSetTo (suc i) new = λ never. (
+      let skipped : (Is old Undecided i → R i → ⊥) → (new : List Finding) × IsSetTo (suc i) new = λ never. (
         before.0,
         subst (λ n. IsSetTo n before.0) next (set_skip i before.0 before.1 never),
       ) in
@@ -185,7 +186,7 @@ missing_said : Missing ≢ Undecided
 missing_said e = let c : Missing ≡ Undecided = e in cc
 
 module _ (ps : List ParentPlaces) (order : IsInOrder ps) where
-  pub decided_exists : (k : ℕ) (old : List Status) (said : Bool) → (new : List Status) × IsDecided ps k said old new
+  pub decided_exists : (k : ℕ) (old : List Finding) (said : Bool) → (new : List Finding) × IsDecided ps k said old new
   decided_exists k old true =
       let all = set_to old (λ j. IsUnder ps j k) (λ j. under_or_not ps order j k) Common common_said (length old) in (
         all.0,
@@ -227,8 +228,8 @@ module _ (ps : List ParentPlaces) (order : IsInOrder ps) where
         },
       )
 
-  told_exists : (xs : List PlacedNode) (answers : List Bool) (old : List Status) → length answers ≡ length xs
-      → (new : List Status) × TakesAnswers ps xs answers old new
+  told_exists : (xs : List PlacedNode) (answers : List Bool) (old : List Finding) → length answers ≡ length xs
+      → (new : List Finding) × TakesAnswers ps xs answers old new
   told_exists [] [] old len = (old, refl)
   told_exists (x ∷ xs) (b ∷ answers) old len = elim (undecided_or_not old x.place) [
     | inl u ↦
@@ -282,7 +283,7 @@ module _ (P : Node → Type 0) (tell : (n : Node) → P n ⊎ (P n → ⊥)) whe
       let said = answers_exist P tell (nodes_of s.asked) in
       let told = told_exists s.parents known.in_order s.asked said.0 s.decided
       (said.1.0 ∙ length-map s.asked (λ x. x.node)) in
-      let new : List Status = told.0 in
+      let new : List Finding = told.0 in
       let len : length new ≡ length s.parents = told_length s.parents s.asked said.0 s.decided new told.1 ∙ known.len in
       let placed_nodes =
       placed_nodes_after s.parents s.asked said.0 s.decided new s.placed_nodes told.1 known.placed_nodes in
@@ -310,7 +311,7 @@ module _ (P : Node → Type 0) (tell : (n : Node) → P n ⊎ (P n → ⊥)) whe
       }
 
   -- what is decided on the way is decided so at the end
-  module _ (ps : List ParentPlaces) (xs : List PlacedNode) (ascending : IsAscending xs) (last : List Status)
+  module _ (ps : List ParentPlaces) (xs : List PlacedNode) (ascending : IsAscending xs) (last : List Finding)
       (closed : IsClosed ps last) (told : (x : PlacedNode) → Contains xs x → (P x.node → Is last Common x.place)
       × ((P x.node → ⊥) → Is last Missing x.place)) where
     record IsOnWay (s : Search) : Type 0 where
@@ -379,11 +380,11 @@ module _ (P : Node → Type 0) (tell : (n : Node) → P n ⊎ (P n → ⊥)) whe
 -- ---- all at once
 
 -- of the placed nodes those are common of which P holds, and nothing is undecided
-pub record AreToldApart (P : Node → Type 0) (xs : List PlacedNode) (ds : List Status) : Type 0 where
+pub record AreToldApart (P : Node → Type 0) (xs : List PlacedNode) (ds : List Finding) : Type 0 where
   pub none_undecided : (k : ℕ) → ¬ (Is ds Undecided k)
   pub common : (k : ℕ) → Is ds Common k ↔ ((x : PlacedNode) × Contains xs x × (x.place ≡ k) × P x.node)
 
-module _ (P : Node → Type 0) (xs : List PlacedNode) (ds last : List Status) (placed_nodes : ArePlacedNodes ds xs)
+module _ (P : Node → Type 0) (xs : List PlacedNode) (ds last : List Finding) (placed_nodes : ArePlacedNodes ds xs)
     (apart : AreToldApart P xs last) (len : length last ≡ length ds) where
   -- each placed node is told by whether P holds of it
   placed_node_told : (x : PlacedNode) → Contains xs x → (P x.node → Is last Common x.place)
@@ -418,7 +419,7 @@ module _ (P : Node → Type 0) (xs : List PlacedNode) (ds last : List Status) (p
   }
 
 -- where a discovery begins upon the baseline
-pub started : (s : State) (ps : List ParentPlaces) (xs : List PlacedNode) (ds : List Status) → IsBaseline s ps xs ds
+pub started : (s : State) (ps : List ParentPlaces) (xs : List PlacedNode) (ds : List Finding) → IsBaseline s ps xs ds
     → (asked : List PlacedNode)
     → IsSample (record { parents = ps; placed_nodes = xs; decided = ds; asked = asked }) asked
     → IsStart s (record { parents = ps; placed_nodes = xs; decided = ds; asked = asked })
@@ -438,7 +439,7 @@ started s ps xs ds baseline asked sample = record {
 
 module _ (ours theirs : ReplicaState) (pins : List Node)
     (tell : (n : Node) → IsServedUnder (content_of theirs) pins n ⊎ (¬ (IsServedUnder (content_of theirs) pins n)))
-    (ps : List ParentPlaces) (xs : List PlacedNode) (ds last : List Status)
+    (ps : List ParentPlaces) (xs : List PlacedNode) (ds last : List Finding)
     (baseline : IsBaseline ours.history ps xs ds)
     (apart : AreToldApart (IsServedUnder (content_of theirs) pins) xs last) (len : length last ≡ length ds)
     (closed : IsClosed ps last) (heads : List PlacedNode)

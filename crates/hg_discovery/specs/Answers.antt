@@ -1,9 +1,9 @@
 -- What the answers to a sample decide.
 use Rattle.std.specs.Prelude.{◌≡◌, ◌≢◌, ℕ, Bool, true, false, List, [], ◌∷◌, length, ◌↔◌, ◌⊎◌, Result, Ok, Err}
 use Rattle.hg_graph.specs.declared.graph.ParentPlaces.{ParentPlaces}
-use Rattle.hg_discovery.specs.declared.status.Status.{Status}
-use Rattle.hg_discovery.specs.declared.status.Status.TheVariants.{Undecided, Common, Missing}
-use Rattle.hg_discovery.specs.declared.status.PlacedNode.{PlacedNode}
+use Rattle.hg_discovery.specs.declared.finding.Finding.{Finding}
+use Rattle.hg_discovery.specs.declared.finding.Finding.TheVariants.{Undecided, Common, Missing}
+use Rattle.hg_discovery.specs.declared.finding.PlacedNode.{PlacedNode}
 use Rattle.hg_discovery.specs.declared.error.DiscoveryError.{DiscoveryError}
 use Rattle.hg_discovery.specs.declared.error.DiscoveryError.TheVariants.{WrongCount, NoMemory}
 use Rattle.hg_discovery.specs.Under.{IsUnder}
@@ -11,20 +11,20 @@ use Rattle.hg_discovery.specs.Search.{Search, Is, IsSearch}
 
 -- a yes for the changeset at k makes it and its undecided ancestors common, a no makes it and its undecided descendants
 -- missing
-pub record IsDecided (ps : List ParentPlaces) (k : ℕ) (said : Bool) (old new : List Status) : Type 0 where
+pub record IsDecided (ps : List ParentPlaces) (k : ℕ) (said : Bool) (old new : List Finding) : Type 0 where
   pub len : length new ≡ length old
   pub common : (j : ℕ) → Is new Common j ↔ (Is old Common j ⊎ ((said ≡ true) × Is old Undecided j × IsUnder ps j k))
   pub missing : (j : ℕ) → Is new Missing j ↔ (Is old Missing j ⊎ ((said ≡ false) × Is old Undecided j × IsUnder ps k j))
 
 -- one answer; what is decided already stays so
-abbrev pub TakesAnswer : List ParentPlaces → ℕ → Bool → List Status → List Status → Type 0
+abbrev pub TakesAnswer : List ParentPlaces → ℕ → Bool → List Finding → List Finding → Type 0
 TakesAnswer ps k said old new =
     (Is old Undecided k × IsDecided ps k said old new) ⊎ ((Is old Undecided k → ⊥) × (new ≡ old))
 
 -- the answers count in the order of the sample
-abbrev pub TakesAnswers : List ParentPlaces → List PlacedNode → List Bool → List Status → List Status → Type 0
+abbrev pub TakesAnswers : List ParentPlaces → List PlacedNode → List Bool → List Finding → List Finding → Type 0
 TakesAnswers ps [] [] old new = new ≡ old
-TakesAnswers ps (x ∷ xs) (said ∷ answers) old new = (mid : List Status) × TakesAnswer ps x.place said old mid
+TakesAnswers ps (x ∷ xs) (said ∷ answers) old new = (mid : List Finding) × TakesAnswer ps x.place said old mid
     × TakesAnswers ps xs answers mid new
 TakesAnswers ps [] (said ∷ answers) old new = ⊥
 TakesAnswers ps (x ∷ xs) [] old new = ⊥

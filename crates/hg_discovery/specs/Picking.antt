@@ -1,10 +1,10 @@
 -- Placed nodes that are picked from an ascending list.
 use Rattle.std.specs.Prelude.{Bool, true, false, List, slice_get, Option, Some, None, ◌&&◌}
-use Rattle.hg_discovery.specs.declared.status.Status.{Status}
-use Rattle.hg_discovery.specs.declared.status.Status.TheVariants.{Undecided, Common, Missing}
-use Rattle.hg_discovery.specs.declared.status.PlacedNode.{PlacedNode}
+use Rattle.hg_discovery.specs.declared.finding.Finding.{Finding}
+use Rattle.hg_discovery.specs.declared.finding.Finding.TheVariants.{Undecided, Common, Missing}
+use Rattle.hg_discovery.specs.declared.finding.PlacedNode.{PlacedNode}
 
-abbrev pub same_decided : Status → Status → Bool
+abbrev pub same_decided : Finding → Finding → Bool
 same_decided Undecided Undecided = true
 same_decided Undecided Common = false
 same_decided Undecided Missing = false
@@ -15,7 +15,7 @@ same_decided Missing Undecided = false
 same_decided Missing Common = false
 same_decided Missing Missing = true
 
-abbrev pub is_decided : Option Status → Status → Bool
+abbrev pub is_decided : Option Finding → Finding → Bool
 is_decided None d = false
 is_decided (Some e) d = same_decided e d
 
@@ -26,5 +26,5 @@ is_mark (Some false) true = false
 is_mark (Some false) false = true
 
 -- the place is decided so, and marked so
-abbrev pub is_picked : List Status → List Bool → Status → Bool → PlacedNode → Bool
+abbrev pub is_picked : List Finding → List Bool → Finding → Bool → PlacedNode → Bool
 is_picked ds marks d covered x = is_decided (slice_get ds x.place) d && is_mark (slice_get marks x.place) covered

@@ -5,9 +5,9 @@ use Rattle.hg_changeset.specs.Contents.{Contents}
 use Rattle.hg_graph.specs.Graph.{Holds}
 use Rattle.hg_replica.specs.Content.{Content}
 use Rattle.hg_view.specs.Pins.{IsServedUnder}
-use Rattle.hg_discovery.specs.declared.status.Status.{Status}
-use Rattle.hg_discovery.specs.declared.status.Status.TheVariants.{Undecided, Common, Missing}
-use Rattle.hg_discovery.specs.declared.status.PlacedNode.{PlacedNode}
+use Rattle.hg_discovery.specs.declared.finding.Finding.{Finding}
+use Rattle.hg_discovery.specs.declared.finding.Finding.TheVariants.{Undecided, Common, Missing}
+use Rattle.hg_discovery.specs.declared.finding.PlacedNode.{PlacedNode}
 use Rattle.hg_discovery.specs.Search.{Search, IsSo, nodes_of}
 use Rattle.hg_discovery.specs.Answers.{IsRound}
 
@@ -59,7 +59,7 @@ abbrev pub AreWithin : List Contents → List Contents → Type 0
 AreWithin cs ds = (c : Contents) → Contains cs c → Contains ds c
 
 -- how many changesets are undecided
-abbrev pub undecided : List Status → ℕ
+abbrev pub undecided : List Finding → ℕ
 undecided [] = 0
 undecided (Undecided ∷ ds) = suc (undecided ds)
 undecided (Common ∷ ds) = undecided ds

@@ -5,9 +5,9 @@ use Rattle.std.specs.declared.cmp.Ordering.TheVariants.{Less}
 use Rattle.hg_changeset.specs.declared.node.Node.{Node}
 use Rattle.hg_changeset.specs.Node.{node_cmp}
 use Rattle.hg_graph.specs.declared.graph.ParentPlaces.{ParentPlaces}
-use Rattle.hg_discovery.specs.declared.status.Status.{Status}
-use Rattle.hg_discovery.specs.declared.status.Status.TheVariants.{Undecided, Common, Missing}
-use Rattle.hg_discovery.specs.declared.status.PlacedNode.{PlacedNode}
+use Rattle.hg_discovery.specs.declared.finding.Finding.{Finding}
+use Rattle.hg_discovery.specs.declared.finding.Finding.TheVariants.{Undecided, Common, Missing}
+use Rattle.hg_discovery.specs.declared.finding.PlacedNode.{PlacedNode}
 use Rattle.hg_discovery.specs.Under.{IsParentAt, IsUnder, IsInOrder}
 
 -- placed nodes are the changesets that are asked about, with their places; a place without one is missing from the
@@ -15,11 +15,11 @@ use Rattle.hg_discovery.specs.Under.{IsParentAt, IsUnder, IsInOrder}
 pub record Search : Type 0 where
   pub parents : List ParentPlaces
   pub placed_nodes : List PlacedNode
-  pub decided : List Status
+  pub decided : List Finding
   pub asked : List PlacedNode
 
 -- what is decided of the changeset at k
-abbrev pub Is : List Status → Status → ℕ → Type 0
+abbrev pub Is : List Finding → Finding → ℕ → Type 0
 Is ds d k = slice_get ds k ≡ Some d
 
 -- by their ids
@@ -31,11 +31,11 @@ abbrev pub Lists : (PlacedNode → Type 0) → List PlacedNode → Type 0
 Lists P xs = IsAscending xs × ((x : PlacedNode) → Contains xs x ↔ P x)
 
 -- decided so
-abbrev pub IsSo : Search → Status → PlacedNode → Type 0
+abbrev pub IsSo : Search → Finding → PlacedNode → Type 0
 IsSo s d x = Contains s.placed_nodes x × Is s.decided d x.place
 
 -- decided so, and no other changeset that is decided so has it as an ancestor
-abbrev pub IsHead : Search → Status → PlacedNode → Type 0
+abbrev pub IsHead : Search → Finding → PlacedNode → Type 0
 IsHead s d x = IsSo s d x × ((j : ℕ) → Is s.decided d j → IsUnder s.parents x.place j → j ≡ x.place)
 
 -- the first 200 of the heads of the undecided ones and then of the others
@@ -47,11 +47,11 @@ pub record IsSample (s : Search) (xs : List PlacedNode) : Type 0 where
   pub first : xs ≡ take 200 (heads ++ others)
 
 -- the ancestors of what is common are common, and the descendants of what is missing are missing
-pub record IsClosed (ps : List ParentPlaces) (ds : List Status) : Type 0 where
+pub record IsClosed (ps : List ParentPlaces) (ds : List Finding) : Type 0 where
   pub common : (j k : ℕ) → IsParentAt ps j k → Is ds Common j → Is ds Common k
   pub missing : (j k : ℕ) → IsParentAt ps j k → Is ds Missing k → Is ds Missing j
 
-pub record ArePlacedNodes (ds : List Status) (xs : List PlacedNode) : Type 0 where
+pub record ArePlacedNodes (ds : List Finding) (xs : List PlacedNode) : Type 0 where
   pub distinct : (x y : PlacedNode) → Contains xs x → Contains xs y → x.node ≡ y.node → x ≡ y
   pub apart : (x y : PlacedNode) → Contains xs x → Contains xs y → x.place ≡ y.place → x ≡ y
   pub within : (x : PlacedNode) → Contains xs x → x.place < length ds

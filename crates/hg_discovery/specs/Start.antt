@@ -5,9 +5,9 @@ use Rattle.hg_graph.specs.Places.{IsAt}
 use Rattle.hg_phases.specs.declared.phase.Phase.TheVariants.{Secret}
 use Rattle.hg_phases.specs.State.{State, changesets, IsPhaseOf}
 use Rattle.hg_graph.specs.declared.graph.ParentPlaces.{ParentPlaces}
-use Rattle.hg_discovery.specs.declared.status.Status.{Status}
-use Rattle.hg_discovery.specs.declared.status.Status.TheVariants.{Undecided, Common}
-use Rattle.hg_discovery.specs.declared.status.PlacedNode.{PlacedNode}
+use Rattle.hg_discovery.specs.declared.finding.Finding.{Finding}
+use Rattle.hg_discovery.specs.declared.finding.Finding.TheVariants.{Undecided, Common}
+use Rattle.hg_discovery.specs.declared.finding.PlacedNode.{PlacedNode}
 use Rattle.hg_discovery.specs.Under.{IsShapeOf, IsInOrder}
 use Rattle.hg_discovery.specs.Search.{Search, Is, IsSearch, IsAscending, IsClosed, ArePlacedNodes, IsHead, Lists}
 use Rattle.hg_discovery.specs.Search.{nodes_of}
@@ -18,7 +18,7 @@ IsShared s x = IsAt (changesets s) x.node x.place × (IsPhaseOf s x.node Secret 
 
 -- what a discovery of the replica begins upon: its parents' places, its changesets that aren't secret, ascending, and
 -- these as undecided
-pub record IsBaseline (s : State) (ps : List ParentPlaces) (xs : List PlacedNode) (ds : List Status) : Type 0 where
+pub record IsBaseline (s : State) (ps : List ParentPlaces) (xs : List PlacedNode) (ds : List Finding) : Type 0 where
   pub shape : IsShapeOf (changesets s) ps
   pub shared : (x : PlacedNode) → Contains xs x ↔ IsShared s x
   pub undecided : (k : ℕ) → Is ds Undecided k ↔ ((x : PlacedNode) × Contains xs x × (x.place ≡ k))

@@ -8,9 +8,9 @@ ghost use Rattle.hg_discovery.specs.Start.{IsStart, AreCommonHeads};
 use crate::children::{Children, children_of};
 use crate::draw::{common_heads, sample};
 use crate::error::DiscoveryError;
+use crate::finding::{Finding, PlacedNode};
 use crate::spread::answered;
 use crate::start::{Baseline, baseline_of};
-use crate::status::{PlacedNode, Status};
 use hg_changeset::Node;
 use hg_graph::ParentPlaces;
 use hg_replica::Replica;
@@ -26,7 +26,7 @@ pub struct Discovery {
 
     // Ascending.
     placed_nodes: Vec<PlacedNode>,
-    decided: Vec<Status>,
+    decided: Vec<Finding>,
     asked: Vec<PlacedNode>,
     alloc: Global,
 }

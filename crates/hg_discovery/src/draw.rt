@@ -4,13 +4,13 @@
 //! head is what isn't marked.
 ghost use Rattle.std.specs.Prelude.{◌≡◌, ◌↔◌, ℕ, ◌≤◌, ◌<◌, ◌++◌, Some, length, take, vec_len, filter, All, OnOk, IfOk};
 ghost use Rattle.std.specs.Prelude.{IsTrue};
-ghost use Rattle.hg_discovery.specs.declared.status.Status.TheVariants.{Undecided, Common};
+ghost use Rattle.hg_discovery.specs.declared.finding.Finding.TheVariants.{Undecided, Common};
 ghost use Rattle.hg_discovery.specs.Under.{IsInOrder, IsOneOf};
 ghost use Rattle.hg_discovery.specs.Search.{IsAscending, IsClosed, ArePlacedNodes, IsSample, IsHead, Lists};
 ghost use Rattle.hg_discovery.specs.Spread.{AreCovered, MarksPlace};
 ghost use Rattle.hg_discovery.specs.Picking.{is_picked};
 
-use crate::status::{PlacedNode, Status};
+use crate::finding::{Finding, PlacedNode};
 use hg_graph::ParentPlaces;
 use std::alloc::{AllocError, Global};
 
@@ -22,7 +22,7 @@ pub(crate) fn sample(
     alloc: Global,
     parents: &[ParentPlaces],
     placed_nodes: &[PlacedNode],
-    decided: &[Status],
+    decided: &[Finding],
 ) -> Result<Vec<PlacedNode>, AllocError>
     requires len { length decided.now ≡ length parents.now }
     requires in_order { IsInOrder parents.now }
@@ -34,13 +34,13 @@ pub(crate) fn sample(
         (record { parents = parents.now; placed_nodes = placed_nodes.now; decided = decided.now; asked = xs.items })
         xs.items) }
 {
-    let covered = covered(alloc, parents, decided, Status::Undecided)?;
+    let covered = covered(alloc, parents, decided, Finding::Undecided)?;
     let mut found = Vec::new(alloc);
     pick(
         placed_nodes,
         decided,
         &covered,
-        Status::Undecided,
+        Finding::Undecided,
         false,
         SAMPLE,
         &mut found,
@@ -49,7 +49,7 @@ pub(crate) fn sample(
         placed_nodes,
         decided,
         &covered,
-        Status::Undecided,
+        Finding::Undecided,
         true,
         SAMPLE,
         &mut found,
@@ -62,7 +62,7 @@ pub(crate) fn common_heads(
     alloc: Global,
     parents: &[ParentPlaces],
     placed_nodes: &[PlacedNode],
-    decided: &[Status],
+    decided: &[Finding],
 ) -> Result<Vec<PlacedNode>, AllocError>
     requires len { length decided.now ≡ length parents.now }
     requires in_order { IsInOrder parents.now }
@@ -74,13 +74,13 @@ pub(crate) fn common_heads(
         (record { parents = parents.now; placed_nodes = placed_nodes.now; decided = decided.now; asked = xs.items })
         Common) xs.items) }
 {
-    let covered = covered(alloc, parents, decided, Status::Common)?;
+    let covered = covered(alloc, parents, decided, Finding::Common)?;
     let mut found = Vec::new(alloc);
     pick(
         placed_nodes,
         decided,
         &covered,
-        Status::Common,
+        Finding::Common,
         false,
         placed_nodes.len(),
         &mut found,
@@ -91,9 +91,9 @@ pub(crate) fn common_heads(
 // Adds the placed nodes that are decided so and covered or not, up to a limit.
 fn pick(
     placed_nodes: &[PlacedNode],
-    decided: &[Status],
+    decided: &[Finding],
     marks: &[bool],
-    so: Status,
+    so: Finding,
     covered: bool,
     limit: usize,
     found: &mut Vec<PlacedNode>,
@@ -116,9 +116,9 @@ fn pick(
 // Whether the placed node is decided so, and marked or not.
 fn is_picked(
     placed_node: PlacedNode,
-    decided: &[Status],
+    decided: &[Finding],
     marks: &[bool],
-    so: Status,
+    so: Finding,
     covered: bool,
 ) -> bool
     requires len { length marks.now ≡ length decided.now }
@@ -132,8 +132,8 @@ fn is_picked(
 pub(crate) fn covered(
     alloc: Global,
     parents: &[ParentPlaces],
-    decided: &[Status],
-    so: Status,
+    decided: &[Finding],
+    so: Finding,
 ) -> Result<Vec<bool>, AllocError>
     requires len { length decided.now ≡ length parents.now }
     requires in_order { IsInOrder parents.now }

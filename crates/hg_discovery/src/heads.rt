@@ -4,11 +4,11 @@ ghost use Rattle.hg_phases.specs.State.{changesets};
 ghost use Rattle.hg_graph.specs.Places.{IsAt};
 ghost use Rattle.hg_view.specs.Common.{AreFree};
 ghost use Rattle.hg_discovery.specs.Between.{AreHeadsInCommon};
-ghost use Rattle.hg_discovery.specs.declared.status.PlacedNode.{PlacedNode};
+ghost use Rattle.hg_discovery.specs.declared.finding.PlacedNode.{PlacedNode};
 
 use crate::discovery::nodes;
+use crate::finding::PlacedNode;
 use crate::order::ascending;
-use crate::status::PlacedNode;
 use hg_changeset::Node;
 use hg_graph::Graph;
 use hg_view::Kept;

@@ -1,10 +1,10 @@
 //! Placed nodes in the order of their ids.
 ghost use Rattle.std.specs.Prelude.{◌↔◌, Contains};
 ghost use Rattle.std.specs.List.Sorted.{IsStrictlySortedBy};
-ghost use Rattle.hg_discovery.specs.declared.status.PlacedNode.{PlacedNode};
+ghost use Rattle.hg_discovery.specs.declared.finding.PlacedNode.{PlacedNode};
 ghost use Rattle.hg_discovery.specs.Order.{placed_node_cmp};
 
-use crate::status::PlacedNode;
+use crate::finding::PlacedNode;
 
 // The placed nodes ascending, each once.
 pub(crate) fn ascending(mut placed_nodes: Vec<PlacedNode>) -> Vec<PlacedNode>

@@ -4,7 +4,7 @@
 //! undecided beside it. So all walks together cost what they decide. They decide in a copy, since nothing changes where
 //! memory is refused.
 ghost use Rattle.std.specs.Prelude.{◌≡◌, ◌≢◌, ◌≤◌, true, false, Some, length, OnOk, IfOk};
-ghost use Rattle.hg_discovery.specs.declared.status.Status.TheVariants.{Undecided, Common, Missing};
+ghost use Rattle.hg_discovery.specs.declared.finding.Finding.TheVariants.{Undecided, Common, Missing};
 ghost use Rattle.hg_discovery.specs.Under.{IsInOrder, IsOneOf};
 ghost use Rattle.hg_discovery.specs.Search.{Is, IsClosed};
 ghost use Rattle.hg_discovery.specs.Answers.{TakesAnswer, TakesAnswers, IsDecided};
@@ -12,7 +12,7 @@ ghost use Rattle.hg_discovery.specs.Children.{AreChildren, Stands};
 ghost use Rattle.hg_discovery.specs.Queue.{Grows, AreTaken};
 
 use crate::children::{Children, Stretch};
-use crate::status::{PlacedNode, Status};
+use crate::finding::{Finding, PlacedNode};
 use hg_graph::ParentPlaces;
 use std::alloc::{AllocError, Global};
 
@@ -23,8 +23,8 @@ pub(crate) fn answered(
     children: &Children,
     asked: &[PlacedNode],
     answers: &[bool],
-    decided: &[Status],
-) -> Result<Vec<Status>, AllocError>
+    decided: &[Finding],
+) -> Result<Vec<Finding>, AllocError>
     requires in_order { IsInOrder parents.now }
     requires len { length decided.now ≡ length parents.now }
     requires closed { IsClosed parents.now decided.now }
@@ -46,7 +46,7 @@ fn tell_all(
     children: &Children,
     asked: &[PlacedNode],
     answers: &[bool],
-    decided: &mut [Status],
+    decided: &mut [Finding],
     queue: &mut Vec<usize>,
 ) -> Result<(), AllocError>
     requires in_order { IsInOrder parents.now }
@@ -77,7 +77,7 @@ fn tell(
     children: &Children,
     place: usize,
     yes: bool,
-    decided: &mut [Status],
+    decided: &mut [Finding],
     queue: &mut Vec<usize>,
 ) -> Result<(), AllocError>
     requires in_order { IsInOrder parents.now }
@@ -87,7 +87,7 @@ fn tell(
     ensures told { OnOk result (TakesAnswer parents.now place yes decided.old decided.new) }
     ensures len { length decided.new ≡ length decided.old }
 {
-    if place < decided.len() && decided[place] == Status::Undecided {
+    if place < decided.len() && decided[place] == Finding::Undecided {
         if yes {
             make_common(parents, place, decided, queue)?;
         } else {
@@ -101,7 +101,7 @@ fn tell(
 fn make_common(
     parents: &[ParentPlaces],
     place: usize,
-    decided: &mut [Status],
+    decided: &mut [Finding],
     queue: &mut Vec<usize>,
 ) -> Result<(), AllocError>
     requires in_order { IsInOrder parents.now }
@@ -112,7 +112,7 @@ fn make_common(
     ensures len { length decided.new ≡ length decided.old }
 {
     let mut next = queue.len();
-    decide(place, Status::Common, decided, queue)?;
+    decide(place, Finding::Common, decided, queue)?;
     while next < queue.len() {
         decide_parents(parents[queue[next]], decided, queue)?;
         next += 1;
@@ -125,7 +125,7 @@ fn make_missing(
     parents: &[ParentPlaces],
     children: &Children,
     place: usize,
-    decided: &mut [Status],
+    decided: &mut [Finding],
     queue: &mut Vec<usize>,
 ) -> Result<(), AllocError>
     requires in_order { IsInOrder parents.now }
@@ -137,7 +137,7 @@ fn make_missing(
     ensures len { length decided.new ≡ length decided.old }
 {
     let mut next = queue.len();
-    decide(place, Status::Missing, decided, queue)?;
+    decide(place, Finding::Missing, decided, queue)?;
     while next < queue.len() {
         decide_children(
             &children.places,
@@ -153,7 +153,7 @@ fn make_missing(
 // Makes the undecided ones of the parents common.
 fn decide_parents(
     parents: ParentPlaces,
-    decided: &mut [Status],
+    decided: &mut [Finding],
     queue: &mut Vec<usize>,
 ) -> Result<(), AllocError>
     ensures grows { Grows (IsOneOf parents) Common decided.old queue.old.items decided.new queue.new.items }
@@ -167,7 +167,7 @@ fn decide_parents(
 // Makes an undecided changeset common, where there is one.
 fn decide_parent(
     place: Option<usize>,
-    decided: &mut [Status],
+    decided: &mut [Finding],
     queue: &mut Vec<usize>,
 ) -> Result<(), AllocError>
     ensures grows { Grows (λ k. place ≡ Some k) Common decided.old queue.old.items decided.new queue.new.items }
@@ -175,7 +175,7 @@ fn decide_parent(
 {
     match place {
         Some(place) => {
-            decide(place, Status::Common, decided, queue)?;
+            decide(place, Finding::Common, decided, queue)?;
             Ok(())
         }
         None => Ok(()),
@@ -186,7 +186,7 @@ fn decide_parent(
 fn decide_children(
     children: &[usize],
     stretch: Stretch,
-    decided: &mut [Status],
+    decided: &mut [Finding],
     queue: &mut Vec<usize>,
 ) -> Result<(), AllocError>
     requires { stretch.to ≤ length children.now }
@@ -196,7 +196,7 @@ fn decide_children(
         (AreTaken (Stands children.now stretch.from stretch.to) Missing decided.old decided.new) }
 {
     for i in stretch.from..stretch.to {
-        decide(children[i], Status::Missing, decided, queue)?;
+        decide(children[i], Finding::Missing, decided, queue)?;
     }
     Ok(())
 }
@@ -204,17 +204,17 @@ fn decide_children(
 // Decides an undecided changeset, and queues it.
 fn decide(
     one: usize,
-    status: Status,
-    decided: &mut [Status],
+    finding: Finding,
+    decided: &mut [Finding],
     queue: &mut Vec<usize>,
 ) -> Result<(), AllocError>
-    requires { status ≢ Undecided }
-    ensures grows { Grows (λ k. one ≡ k) status decided.old queue.old.items decided.new queue.new.items }
-    ensures taken { OnOk result (AreTaken (λ k. one ≡ k) status decided.old decided.new) }
+    requires { finding ≢ Undecided }
+    ensures grows { Grows (λ k. one ≡ k) finding decided.old queue.old.items decided.new queue.new.items }
+    ensures taken { OnOk result (AreTaken (λ k. one ≡ k) finding decided.old decided.new) }
 {
-    if one < decided.len() && decided[one] == Status::Undecided {
+    if one < decided.len() && decided[one] == Finding::Undecided {
         queue.push(one)?;
-        decided[one] = status;
+        decided[one] = finding;
     }
     Ok(())
 }

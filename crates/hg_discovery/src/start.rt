@@ -1,15 +1,15 @@
 //! Where a discovery begins.
 ghost use Rattle.std.specs.Prelude.{◌≡◌, ◌≢◌, ℕ, ◌<◌, ◌↔◌, ◌⊎◌, Some, length, IfOk, IsTrue, Contains};
-ghost use Rattle.hg_discovery.specs.declared.status.Status.TheVariants.{Undecided, Common, Missing};
+ghost use Rattle.hg_discovery.specs.declared.finding.Finding.TheVariants.{Undecided, Common, Missing};
 ghost use Rattle.hg_phases.specs.State.{changesets, IsPhaseOf};
 ghost use Rattle.hg_phases.specs.declared.phase.Phase.TheVariants.{Secret};
-ghost use Rattle.hg_discovery.specs.declared.status.PlacedNode.{PlacedNode};
+ghost use Rattle.hg_discovery.specs.declared.finding.PlacedNode.{PlacedNode};
 ghost use Rattle.hg_discovery.specs.Under.{IsShapeOf};
 ghost use Rattle.hg_discovery.specs.Search.{Is};
 ghost use Rattle.hg_discovery.specs.Start.{IsShared, IsBaseline};
 
+use crate::finding::{Finding, PlacedNode};
 use crate::order::ascending;
-use crate::status::{PlacedNode, Status};
 use hg_changeset::Node;
 use hg_graph::{Graph, ParentPlaces};
 use hg_instab::has_phase_at;
@@ -23,7 +23,7 @@ use std::alloc::{AllocError, Global};
 pub(crate) struct Baseline {
     pub(crate) parents: Vec<ParentPlaces>,
     pub(crate) placed_nodes: Vec<PlacedNode>,
-    pub(crate) decided: Vec<Status>,
+    pub(crate) decided: Vec<Finding>,
 }
 
 // What a discovery of the replica begins upon.
@@ -73,16 +73,16 @@ fn undecided(
     alloc: Global,
     len: usize,
     placed_nodes: &[PlacedNode],
-) -> Result<Vec<Status>, AllocError>
+) -> Result<Vec<Finding>, AllocError>
     requires { (x : PlacedNode) → Contains placed_nodes.now x → x.place < len }
     ensures len { IfOk result (λ ds. length ds.items ≡ len) }
     ensures undecided { IfOk result (λ ds. (k : ℕ) → Is ds.items Undecided k
         ↔ ((x : PlacedNode) × Contains placed_nodes.now x × (x.place ≡ k))) }
     ensures nothing_common { IfOk result (λ ds. (k : ℕ) → Is ds.items Common k → ⊥) }
 {
-    let mut decided = vec![in alloc; Status::Missing; len]?;
+    let mut decided = vec![in alloc; Finding::Missing; len]?;
     for placed_node in placed_nodes {
-        decided[placed_node.place] = Status::Undecided;
+        decided[placed_node.place] = Finding::Undecided;
     }
     Ok(decided)
 }

@@ -36,12 +36,12 @@ mutable-below f valid a n leads mutable =
 -- what stands on an orphan is an orphan itself, where it isn't obsolete
 pub not_below_orphan : (s : ReplicaState) → IsValid s → (a n : Node) → IsOrphan (content_of s) a
     → ¬ (IsOrphan (content_of s) n) → ¬ (IsObsolete (content_of s) n) → ¬ (Reaches s.history a n)
-not_below_orphan s valid a n orphan calm current reaches =
+not_below_orphan s valid a n orphan stands current reaches =
     let f = content_of s in
     let leads = leads_from_reach s.history valid.graph a n reaches in
     let mutable = mutable-below f (content-valid s valid) a n leads orphan.0.0 in
     let root = orphan.1 in
-    calm ((mutable, current), (root.0, ((mutable.0, mutable.1), leads-along f.0 root.0 a n root.1.1 leads), root.2))
+    stands ((mutable, current), (root.0, ((mutable.0, mutable.1), leads-along f.0 root.0 a n root.1.1 leads), root.2))
 
 -- a relocation is linear where the node stands above neither new parent
 pub apart_linear : (s : ReplicaState) (op : Op) (node p q : Node) (entry : EntryValue) → op ≡ Relocate node p q entry

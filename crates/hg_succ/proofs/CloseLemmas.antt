@@ -35,8 +35,8 @@ module _ (R : List (List ℕ)) (s : SearchState) (so : IsSearch R s) (t u : ℕ)
     listed = so.listed;
     fresh = so.fresh;
     bounded = so.bounded;
-    spent = λ p x h. elim (so.spent p x h) [
-      | inr spent ↦ inr spent
+    all_followed = λ p x h. elim (so.all_followed p x h) [
+      | inr all ↦ inr all
       | inl on ↦ elim (Contains-push_cases end.last.0 t p (subst (λ (xs : List ℕ). Contains xs p) end.last.1 on)) [
         | inl before ↦ inl before
         | inr same ↦
@@ -85,9 +85,9 @@ module _ (R : List (List ℕ)) (s : SearchState) (so : IsSearch R s) (t u : ℕ)
   ]
 
   -- isnt edge is left to follow in the part
-  part_spent : (p x : ℕ) → t ≤ p → At s.waiting p x → At s.left x 0
-  part_spent p x le h = elim (so.spent p x h) [
-    | inr spent ↦ spent
+  part_all_followed : (p x : ℕ) → t ≤ p → At s.waiting p x → At s.left x 0
+  part_all_followed p x le h = elim (so.all_followed p x h) [
+    | inr all ↦ all
     | inl on ↦ (let l = path_below R s so t u end p on in let same : t ≡ p = omega arith in
         subst (λ v. At s.left v 0) (get_one s.waiting p u x (subst (λ k. At s.waiting k u) same end.waits) h) none)
   ]
@@ -97,7 +97,7 @@ module _ (R : List (List ℕ)) (s : SearchState) (so : IsSearch R s) (t u : ℕ)
       → At s.marks y Done ⊎ ((q : ℕ) × (t ≤ q) × At s.waiting q y)
   part_edge p x y le h edge =
       let e = place_from_Contains edge.0 y edge.2 in
-      elim (so.followed p x 0 e.0 y edge.0 h (part_spent p x le h) edge.1 (omega arith) e.1) [
+      elim (so.followed p x 0 e.0 y edge.0 h (part_all_followed p x le h) edge.1 (omega arith) e.1) [
         | inl done ↦ inl done
         | inr w ↦ elim (w.2 t t_starts) [ inl later ↦ inr (w.0, later, w.1) | inr before ↦ absurd (omega arith) ]
       ]
@@ -227,10 +227,10 @@ module _ (R : List (List ℕ)) (s : SearchState) (so : IsSearch R s) (t u : ℕ)
   after_fresh x h =
       elim (st.from x New h) [ inl part ↦ absurd (new_done (ap (λ (m : Mark). Some m) part.0)) | inr old ↦ old ]
 
-  after_spent : (p x : ℕ) → At (take t s.waiting) p x → Contains end.last.0 p ⊎ At s.left x 0
-  after_spent p x h =
+  after_all_followed : (p x : ℕ) → At (take t s.waiting) p x → Contains end.last.0 p ⊎ At s.left x 0
+  after_all_followed p x h =
       let w = get-take s.waiting t p x h in
-      elim (so.spent p x w.1) [ inl on ↦ inl (not_end p w.0 on) | inr spent ↦ inr spent ]
+      elim (so.all_followed p x w.1) [ inl on ↦ inl (not_end p w.0 on) | inr all ↦ inr all ]
 
   after_followed : (p x l e y : ℕ) (row : List ℕ) → At (take t s.waiting) p x → At s.left x l → At R x row
       → l ≤ e → At row e y
@@ -278,7 +278,7 @@ module _ (R : List (List ℕ)) (s : SearchState) (so : IsSearch R s) (t u : ℕ)
     listed = after_listed;
     fresh = λ x row h r. so.fresh x row (after_fresh x h) r;
     bounded = so.bounded;
-    spent = after_spent;
+    all_followed = after_all_followed;
     followed = after_followed;
     path_up = ascending_front end.last.0 (t ∷ []) (subst IsAscending end.last.1 so.path_up);
     path_in = λ p h. (let l = ascending_last end.last.0 t (subst IsAscending end.last.1 so.path_up) p h in

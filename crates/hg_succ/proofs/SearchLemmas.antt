@@ -132,10 +132,10 @@ module _ (R : List (List ℕ)) (s : SearchState) (so : IsSearch R s) (y : ℕ) (
         so.fresh x row old r
   ]
 
-  entered_spent : (p x : ℕ) → At (s.waiting ++ y ∷ []) p x → Contains (s.path ++ length s.waiting ∷ []) p
+  entered_all_followed : (p x : ℕ) → At (s.waiting ++ y ∷ []) p x → Contains (s.path ++ length s.waiting ∷ []) p
       ⊎ At s.left x 0
-  entered_spent p x h = elim (slice_get-push_cases s.waiting y p x h) [
-    | inl before ↦ elim (so.spent p x before)
+  entered_all_followed p x h = elim (slice_get-push_cases s.waiting y p x h) [
+    | inl before ↦ elim (so.all_followed p x before)
         [ inl on ↦ inl (Contains-append_left s.path (length s.waiting ∷ []) p on) | inr none ↦ inr none ]
     | inr last ↦
         inl (subst (Contains (s.path ++ length s.waiting ∷ [])) (sym last.0) (Contains-push s.path (length s.waiting)))
@@ -231,7 +231,7 @@ module _ (R : List (List ℕ)) (s : SearchState) (so : IsSearch R s) (y : ℕ) (
     listed = λ x h. so.listed x (old_done x h);
     fresh = entered_fresh;
     bounded = so.bounded;
-    spent = entered_spent;
+    all_followed = entered_all_followed;
     followed = entered_followed;
     path_up = ascending_push s.path (length s.waiting) so.path_up so.path_in;
     path_in = entered_path_in;
@@ -332,7 +332,7 @@ module _ (R : List (List ℕ)) (s : SearchState) (so : IsSearch R s) (t u : ℕ)
     listed = so.listed;
     fresh = so.fresh;
     bounded = so.bounded;
-    spent = so.spent;
+    all_followed = so.all_followed;
     followed = merged_followed;
     path_up = so.path_up;
     path_in = so.path_in;
@@ -385,7 +385,7 @@ module _ (R : List (List ℕ)) (s : SearchState) (so : IsSearch R s) (t u l y : 
       | inl same ↦ (let b = so.bounded x (suc l) r (subst (λ v. At s.left v (suc l)) same.0 left) r_at in
           omega (arith, same.1))
     ];
-    spent = λ p x h. elim (so.spent p x h) [
+    all_followed = λ p x h. elim (so.all_followed p x h) [
       | inl on' ↦ inl on'
       | inr none ↦
           inr (get-set_other s.left u x l

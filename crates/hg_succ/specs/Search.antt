@@ -58,7 +58,7 @@ pub record IsSearch (rows : List (List ℕ)) (s : SearchState) : Type 0 where
   pub fresh : (x : ℕ) (row : List ℕ) → At s.marks x New → At rows x row → At s.left x (length row)
   pub bounded : (x l : ℕ) (row : List ℕ) → At s.left x l → At rows x row → l ≤ length row
   -- a node that the search has left has no more edges to follow
-  pub spent : (p x : ℕ) → At s.waiting p x → Contains s.path p ⊎ At s.left x 0
+  pub all_followed : (p x : ℕ) → At s.waiting p x → Contains s.path p ⊎ At s.left x 0
   pub followed : (p x l e y : ℕ) (row : List ℕ) → At s.waiting p x → At s.left x l → At rows x row → l ≤ e → At row e y
       → IsAccounted s p y
   pub path_up : IsAscending s.path

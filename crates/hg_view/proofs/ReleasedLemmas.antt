@@ -27,17 +27,17 @@ pub upheld-left : (f : Content) (pins fewer upheld gone left : List Node) (but :
 upheld-left f pins fewer upheld gone left but are r lefts fewers = record {
   pinned = λ n h. are.pinned n ((fewers n).0 h).0;
   held = λ n h. are.held n ((lefts n).0 h).0;
-  stands = λ n h. elim (r.firm n ((lefts n).0 h)) [
+  stands = λ n h. elim (r.upheld_still n ((lefts n).0 h)) [
     | inl pinned ↦ inl ((fewers n).1 pinned)
     | inr child ↦ inr (child.0, (lefts child.0).1 child.1, child.2)
   ];
   begun = λ n pinned m.
       let other = (fewers n).0 pinned in
-      (lefts n).1 (are.begun n other.0 m, λ goes. r.loose n goes (inl other));
+      (lefts n).1 (are.begun n other.0 m, λ goes. r.not_upheld n goes (inl other));
   closed = λ n child m.
       let c = (lefts child.0).0 child.1 in
       (lefts n).1
-      (are.closed n (child.0, c.0, child.2) m, λ goes. r.loose n goes (inr (child.0, c, child.2)));
+      (are.closed n (child.0, c.0, child.2) m, λ goes. r.not_upheld n goes (inr (child.0, c, child.2)));
 }
 
 -- ---- the walk
@@ -50,8 +50,8 @@ module _ (s : ReplicaState) (pins : List Node) (but : Node) (upheld : List Node)
       → Widens (λ k. (place ≡ Some k) × IsLeftAt (changesets s.history) upheld gone k) old waiting
       → AreReleasing s pins but upheld gone waiting
   releasing-start gone place old waiting are empty there widens = record {
-    loose = λ n goes. absurd (clear n goes);
-    firm = λ n k at left free. elim (are.stands n left.0) [
+    not_upheld = λ n goes. absurd (clear n goes);
+    upheld_still = λ n k at left free. elim (are.stands n left.0) [
       | inl pinned ↦ inl (pinned, λ same. free ((widens k).1 (inr (is place there n k at same, (n, at, left)))))
       | inr child ↦ inr (child.0, (child.1, clear child.0), child.2)
     ];
@@ -73,10 +73,10 @@ module _ (s : ReplicaState) (pins : List Node) (but : Node) (upheld : List Node)
       → ((k : ℕ) → ¬ (Contains waiting k)) → AreReleasing s pins but upheld gone waiting
       → AreReleased (content_of s) pins but upheld gone
   releasing-end v gone waiting are none w = record {
-    loose = w.loose;
-    firm = λ n left.
+    not_upheld = w.not_upheld;
+    upheld_still = λ n left.
         let k = placed-node s v n (are.held n left.0) in
-        w.firm n k.0 k.1 left (none k.0);
+        w.upheld_still n k.0 k.1 left (none k.0);
   }
 
   module _ (gone : List Node) (waiting rest : List ℕ) (place : ℕ) (next : IsLast (Contains waiting) rest place)
@@ -85,10 +85,11 @@ module _ (s : ReplicaState) (pins : List Node) (but : Node) (upheld : List Node)
     pub releasing-stays : ((n : Node) → IsAt (changesets s.history) n place
         → IsUpheldStill (content_of s) pins but upheld gone n) → AreReleasing s pins but upheld gone rest
     releasing-stays still = record {
-      loose = w.loose;
-      firm = λ n k at left free. elim (cases_eq k place) [
+      not_upheld = w.not_upheld;
+      upheld_still = λ n k at left free. elim (cases_eq k place) [
         | inl same ↦ still n (subst (IsAt (changesets s.history) n) same at)
-        | inr other ↦ w.firm n k at left (λ h. elim ((next.0 k).0 h) [ inl e ↦ other (sym e) | inr more ↦ free more ])
+        | inr other ↦ w.upheld_still n k at left
+            (λ h. elim ((next.0 k).0 h) [ inl e ↦ other (sym e) | inr more ↦ free more ])
       ];
     }
 
@@ -100,14 +101,14 @@ module _ (s : ReplicaState) (pins : List Node) (but : Node) (upheld : List Node)
         × IsLeftAt (changesets s.history) upheld gone_now k) rest waiting_now
         → AreReleasing s pins but upheld gone_now waiting_now
     releasing-goes v node gone_now waiting_now here none adds widens = record {
-      loose = λ n goes still. elim ((adds.members n).0 goes) [
-        | inl old ↦ w.loose n old (before n still)
+      not_upheld = λ n goes still. elim ((adds.members n).0 goes) [
+        | inl old ↦ w.not_upheld n old (before n still)
         | inr e ↦ none (subst (IsUpheldStill (content_of s) pins but upheld gone) (sym e) (before n still))
       ];
-      firm = λ n k at left free.
+      upheld_still = λ n k at left free.
           let other : k ≢ place = λ same. left.1 ((adds.members n).1 (inr (same_Some node n
           (sym here ∙ ap (slice_get (nodes (changesets s.history))) (sym same) ∙ at)))) in
-          elim (w.firm n k at (left.0, λ h. left.1 ((adds.members n).1 (inl h)))
+          elim (w.upheld_still n k at (left.0, λ h. left.1 ((adds.members n).1 (inl h)))
           (λ h. elim ((next.0 k).0 h) [
             | inl e ↦ other (sym e)
             | inr more ↦ free ((widens k).1 (inl more))

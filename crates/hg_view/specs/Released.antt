@@ -27,12 +27,12 @@ IsUpheldStill f pins but upheld gone n =
 
 -- what goes isn't upheld still, and what is left is
 pub record AreReleased (f : Content) (pins : List Node) (but : Node) (upheld gone : List Node) : Type 0 where
-  pub loose : (n : Node) → Contains gone n → ¬ (IsUpheldStill f pins but upheld gone n)
-  pub firm : (n : Node) → IsLeft upheld gone n → IsUpheldStill f pins but upheld gone n
+  pub not_upheld : (n : Node) → Contains gone n → ¬ (IsUpheldStill f pins but upheld gone n)
+  pub upheld_still : (n : Node) → IsLeft upheld gone n → IsUpheldStill f pins but upheld gone n
 
 -- on the way there: what is left is upheld still, or waits
 pub record AreReleasing (s : ReplicaState) (pins : List Node) (but : Node) (upheld gone : List Node)
     (waiting : List ℕ) : Type 0 where
-  pub loose : (n : Node) → Contains gone n → ¬ (IsUpheldStill (content_of s) pins but upheld gone n)
-  pub firm : (n : Node) (k : ℕ) → IsAt (changesets s.history) n k → IsLeft upheld gone n → ¬ (Contains waiting k)
-      → IsUpheldStill (content_of s) pins but upheld gone n
+  pub not_upheld : (n : Node) → Contains gone n → ¬ (IsUpheldStill (content_of s) pins but upheld gone n)
+  pub upheld_still : (n : Node) (k : ℕ) → IsAt (changesets s.history) n k → IsLeft upheld gone n
+      → ¬ (Contains waiting k) → IsUpheldStill (content_of s) pins but upheld gone n

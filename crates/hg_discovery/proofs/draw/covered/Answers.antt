@@ -1,6 +1,6 @@
 use Rattle.std.proofs.Common.{◌≡◌, ◌<◌, ◌+◌, ◌∙◌, arith, length, None, sym, subst, ap}
 use Rattle.std.proofs.lemmas.Option.{slice_get-get_or}
-use Rattle.hg_discovery.specs.declared.status.Status.TheVariants.{Undecided}
+use Rattle.hg_discovery.specs.declared.finding.Finding.TheVariants.{Undecided}
 use Rattle.hg_graph.proofs.MarkLemmas.{written}
 use Rattle.hg_discovery.specs.Under.{IsOneOf}
 use Rattle.hg_discovery.specs.Spread.{MarksPlace}

@@ -1,7 +1,7 @@
 use Rattle.std.proofs.Common.{◌<◌, ◌∙◌, arith, length, false, Some, sym, ap, true≢false}
 use Rattle.std.proofs.lemmas.Option.{slice_get-get_or, get_or_from_slice_get}
 use mathlib.Core.Bool.{beq}
-use Rattle.hg_discovery.specs.declared.status.Status.TheVariants.{Undecided}
+use Rattle.hg_discovery.specs.declared.finding.Finding.TheVariants.{Undecided}
 use Rattle.hg_discovery.proofs.DecidedLemmas.{read_so, read_not_so, same_bool, same_bool_itself}
 use Rattle.hg_discovery.proofs.DrawLemmas.{picked, from_picked}
 use Rattle.hg_discovery.proofs.draw.is_picked.Goals as goal

@@ -1,6 +1,6 @@
 use Rattle.std.proofs.Common.{◌≡◌, ◌∙◌, [], arith, length, sym, ap, true≢false}
 use Rattle.std.specs.Vec.{vec_len}
-use Rattle.hg_discovery.specs.declared.status.PlacedNode.{PlacedNode}
+use Rattle.hg_discovery.specs.declared.finding.PlacedNode.{PlacedNode}
 use Rattle.hg_discovery.specs.Picking.{is_picked}
 use Rattle.hg_discovery.proofs.DrawLemmas.{pick_push, pick_skip, pick_full}
 use Rattle.hg_discovery.proofs.draw.pick.Goals as goal

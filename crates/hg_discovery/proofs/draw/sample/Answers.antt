@@ -1,8 +1,8 @@
 use Rattle.std.proofs.Common.{◌≡◌, ◌++◌, ◌∙◌, List, arith, length, take, filter, true, false, ap}
 use Rattle.std.proofs.lemmas.List.{length-take}
 use Rattle.std.proofs.lemmas.List.Elements.{Contains-get_or}
-use Rattle.hg_discovery.specs.declared.status.Status.TheVariants.{Undecided}
-use Rattle.hg_discovery.specs.declared.status.PlacedNode.{PlacedNode}
+use Rattle.hg_discovery.specs.declared.finding.Finding.TheVariants.{Undecided}
+use Rattle.hg_discovery.specs.declared.finding.PlacedNode.{PlacedNode}
 use Rattle.hg_discovery.specs.Picking.{is_picked}
 use Rattle.hg_discovery.proofs.DrawLemmas.{take_front}
 use Rattle.hg_discovery.proofs.SampleLemmas.{drawn_sample}

@@ -2,7 +2,7 @@ use Rattle.std.proofs.Common.{◌↔◌, ◌+◌, ◌≡◌, List, Contains, tak
 use Rattle.std.proofs.lemmas.List.{take_all}
 use Rattle.std.proofs.lemmas.Option.{none-some}
 use Rattle.hg_graph.specs.Places.{IsAt}
-use Rattle.hg_discovery.specs.declared.status.PlacedNode.{PlacedNode}
+use Rattle.hg_discovery.specs.declared.finding.PlacedNode.{PlacedNode}
 use Rattle.hg_discovery.proofs.PlacedNodeLemmas.{placed_nodes-push, placed_nodes-skip}
 use Rattle.hg_discovery.proofs.heads.placed_nodes_at.Goals as goal
 use Rattle.hg_discovery.proofs.heads.placed_nodes_at.Goals.{in-Some+in_ok-push, in_default}

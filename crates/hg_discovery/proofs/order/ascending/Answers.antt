@@ -4,8 +4,8 @@ use Rattle.std.specs.List.Sorted.{IsStrictlySortedBy}
 use Rattle.std.proofs.lemmas.List.Filters.{dedup_is}
 use Rattle.std.proofs.lemmas.List.Kept.{IsStrictlySortedBy-dedup, Contains-dedup, Contains-from_dedup}
 use Rattle.std.proofs.lemmas.List.Sorted.{Contains-permutation, IsPermutation-sym}
-use Rattle.hg_discovery.specs.contracts.status.PlacedNodeOrd.TheImpl.Laws.{total-law, matches_eq-law}
-use Rattle.hg_discovery.specs.contracts.status.PlacedNodeEq.TheImpl.Laws.{laws-law}
+use Rattle.hg_discovery.specs.contracts.finding.PlacedNodeOrd.TheImpl.Laws.{total-law, matches_eq-law}
+use Rattle.hg_discovery.specs.contracts.finding.PlacedNodeEq.TheImpl.Laws.{laws-law}
 use Rattle.hg_discovery.specs.Order.{placed_node_cmp}
 use Rattle.hg_discovery.proofs.SortLemmas.{placed_node_eq, same_placed_node}
 use Rattle.hg_discovery.proofs.order.ascending.Goals as goal

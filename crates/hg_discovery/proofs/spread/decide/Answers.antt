@@ -1,7 +1,7 @@
 use Rattle.std.proofs.Common.{arith, sym, subst}
 use Rattle.std.proofs.lemmas.Option.{slice_get_within}
 use Rattle.hg_graph.proofs.MarkLemmas.{get-set_same}
-use Rattle.hg_discovery.specs.declared.status.Status.TheVariants.{Undecided}
+use Rattle.hg_discovery.specs.declared.finding.Finding.TheVariants.{Undecided}
 use Rattle.hg_discovery.specs.Search.{Is}
 use Rattle.hg_discovery.proofs.DecidedLemmas.{read_so, read_not_so}
 use Rattle.hg_discovery.proofs.WalkLemmas.{Grows-one}
@@ -14,11 +14,11 @@ returns-in_ok-push-clause-grows c =
     let old = c.args.decided.now in
     let p = c.args.one in
     let at = read_so old p Undecided Undecided c.eq.result c.if-one-decided.true c.eq.ensures c.if-eq.true in
-    rw c.in_ok-push.ensures.items (Grows-one c.args.status c.requires p old c.args.queue.now.items at)
+    rw c.in_ok-push.ensures.items (Grows-one c.args.finding c.requires p old c.args.queue.now.items at)
 
 pub returns-in_ok-push-clause-taken : goal.returns-in_ok-push-clause-taken
 returns-in_ok-push-clause-taken c k e u =
-    subst (Is _ c.args.status) e (get-set_same c.args.decided.now c.args.one c.args.status c.if-one-decided.true)
+    subst (Is _ c.args.finding) e (get-set_same c.args.decided.now c.args.one c.args.finding c.if-one-decided.true)
 
 pub returns-else-one-decided-clause-taken : goal.returns-else-one-decided-clause-taken
 returns-else-one-decided-clause-taken c k e u =

@@ -1,6 +1,6 @@
 use Rattle.std.proofs.Common.{◌≡◌, ◌+◌, inl, inr, arith, get_or, slice_get, Some, refl}
 use Rattle.std.proofs.lemmas.Option.{slice_get-get_or}
-use Rattle.hg_discovery.specs.declared.status.Status.TheVariants.{Missing}
+use Rattle.hg_discovery.specs.declared.finding.Finding.TheVariants.{Missing}
 use Rattle.hg_discovery.specs.Children.{Stands}
 use Rattle.hg_discovery.proofs.WalkLemmas.{Grows-wider, Grows-none, stretch_grows, stretch_taken, stands_in}
 use Rattle.hg_discovery.proofs.spread.decide_children.Goals as goal

@@ -1,5 +1,5 @@
 use Rattle.std.proofs.Common.{◌≡◌, ◌⊎◌, ◌≤◌}
-use Rattle.hg_discovery.specs.declared.status.Status.TheVariants.{Missing}
+use Rattle.hg_discovery.specs.declared.finding.Finding.TheVariants.{Missing}
 use Rattle.hg_discovery.specs.Children.{Stands}
 use Rattle.hg_discovery.specs.Queue.{Grows, AreTaken}
 use Rattle.hg_discovery.proofs.spread.decide_children.Given as goal

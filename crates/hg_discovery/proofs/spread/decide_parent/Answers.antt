@@ -1,5 +1,5 @@
 use Rattle.std.proofs.Common.{ap, Some}
-use Rattle.hg_discovery.specs.declared.status.Status.TheVariants.{Common}
+use Rattle.hg_discovery.specs.declared.finding.Finding.TheVariants.{Common}
 use Rattle.std.proofs.Common.{◌∙◌}
 use Rattle.hg_discovery.proofs.WalkLemmas.{Grows-wider}
 use Rattle.hg_discovery.proofs.spread.decide_parent.Goals as goal

@@ -1,5 +1,5 @@
 use Rattle.std.proofs.Common.{inl, inr}
-use Rattle.hg_discovery.specs.declared.status.Status.TheVariants.{Common}
+use Rattle.hg_discovery.specs.declared.finding.Finding.TheVariants.{Common}
 use Rattle.hg_discovery.specs.Under.{IsOneOf}
 use Rattle.hg_discovery.proofs.WalkLemmas.{Grows-wider, Grows-then}
 use Rattle.hg_discovery.proofs.spread.decide_parents.Goals as goal

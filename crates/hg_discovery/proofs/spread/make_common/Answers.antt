@@ -1,6 +1,6 @@
 use Rattle.std.proofs.Common.{rules, ◌≡◌, ◌<◌, ◌∙◌, arith, length, slice_get, Some}
 use Rattle.std.proofs.lemmas.Option.{slice_get-get_or}
-use Rattle.hg_discovery.specs.declared.status.Status.TheVariants.{Common}
+use Rattle.hg_discovery.specs.declared.finding.Finding.TheVariants.{Common}
 use Rattle.hg_discovery.specs.Under.{itself}
 use Rattle.hg_discovery.proofs.WalkLemmas.{IsWalked-start, ToParent, Below, read, up_within, up_walked}
 use Rattle.hg_discovery.proofs.WalkLemmas.{walked_common}

@@ -1,5 +1,5 @@
 use Rattle.std.proofs.Common.{◌+◌, ◌-◌, length}
-use Rattle.hg_discovery.specs.declared.status.Status.TheVariants.{Common}
+use Rattle.hg_discovery.specs.declared.finding.Finding.TheVariants.{Common}
 use Rattle.hg_discovery.specs.Rounds.{undecided}
 use Rattle.hg_discovery.proofs.WalkLemmas.{IsWalked, ToParent, Below}
 use Rattle.hg_discovery.proofs.spread.make_common.Given as goal

@@ -1,5 +1,5 @@
 use Rattle.std.proofs.Common.{◌≡◌, ◌∙◌, ◌<◌, arith, length, slice_get, Some}
-use Rattle.hg_discovery.specs.declared.status.Status.TheVariants.{Missing}
+use Rattle.hg_discovery.specs.declared.finding.Finding.TheVariants.{Missing}
 use Rattle.hg_discovery.specs.Under.{IsUnder, itself}
 use Rattle.hg_discovery.specs.Children.{Stands}
 use Rattle.hg_discovery.specs.Queue.{Grows, AreTaken}

@@ -1,5 +1,5 @@
 use Rattle.std.proofs.Common.{◌+◌, ◌-◌, length}
-use Rattle.hg_discovery.specs.declared.status.Status.TheVariants.{Missing}
+use Rattle.hg_discovery.specs.declared.finding.Finding.TheVariants.{Missing}
 use Rattle.hg_discovery.specs.Rounds.{undecided}
 use Rattle.hg_discovery.specs.Under.{IsUnder}
 use Rattle.hg_discovery.proofs.WalkLemmas.{IsWalked, ToChild}

@@ -1,4 +1,4 @@
-use Rattle.hg_discovery.specs.declared.status.Status.TheVariants.{Undecided}
+use Rattle.hg_discovery.specs.declared.finding.Finding.TheVariants.{Undecided}
 use Rattle.hg_discovery.proofs.DecidedLemmas.{read_so}
 use Rattle.hg_discovery.proofs.spread.tell.Goals as goal
 

@@ -1,7 +1,7 @@
 use Rattle.std.proofs.Common.{◌≡◌, ◌↔◌, ℕ, arith, length, Contains, subst}
 use Rattle.hg_phases.specs.State.{changesets}
-use Rattle.hg_discovery.specs.declared.status.Status.TheVariants.{Undecided}
-use Rattle.hg_discovery.specs.declared.status.PlacedNode.{PlacedNode}
+use Rattle.hg_discovery.specs.declared.finding.Finding.TheVariants.{Undecided}
+use Rattle.hg_discovery.specs.declared.finding.PlacedNode.{PlacedNode}
 use Rattle.hg_discovery.specs.Start.{IsShared}
 use Rattle.hg_discovery.specs.Under.{IsShapeOf}
 use Rattle.hg_discovery.specs.Search.{Is}

@@ -1,6 +1,6 @@
 use Rattle.std.proofs.Common.{◌<◌, [], arith, get_or}
 use Rattle.std.proofs.lemmas.List.Elements.{Contains-get_or}
-use Rattle.hg_discovery.specs.declared.status.PlacedNode.{PlacedNode}
+use Rattle.hg_discovery.specs.declared.finding.PlacedNode.{PlacedNode}
 use Rattle.hg_discovery.proofs.StartLemmas.{AreUndecidedTo-more}
 use Rattle.hg_discovery.proofs.start.undecided.Goals as goal
 

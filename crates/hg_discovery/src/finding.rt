@@ -3,7 +3,7 @@ use hg_changeset::Node;
 
 /// What is decided of a changeset.
 #[derive(Clone, Copy, PartialEq, Eq, Debug)]
-pub enum Status {
+pub enum Finding {
     /// Nothing yet.
     Undecided,
     /// Both sides hold it.
