@@ -1,18 +1,15 @@
 -- In what two replicas differ, and what is written of that.
-use Rattle.std.specs.Prelude.{◌≡◌, ◌≢◌, ◌⊎◌, ◌↔◌, ◌++◌, ℕ, zero, suc, List, [], Bool, not, if◌then◌else◌}
-use Rattle.std.specs.Prelude.{IsTrue, Option, None, Some, codes, decimal, filter, length}
+use Rattle.std.specs.Prelude.{◌≡◌, ◌⊎◌, ◌↔◌, ◌++◌, ℕ, zero, suc, [], Bool, if◌then◌else◌}
+use Rattle.std.specs.Prelude.{IsTrue, Option, None, Some, codes, decimal, length}
 use Rattle.std.specs.Io.KnownBytes.{Appends}
 use Rattle.hg_changeset.specs.declared.node.Node.{Node}
 use Rattle.hg_log.specs.Drawings.{Grows, IsLine, StandsAt, Text}
-use Rattle.hg_marker.specs.Fields.{Fields}
-use Rattle.hg_obsstore.specs.Growth.{holds}
-use Rattle.hg_phases.specs.declared.phase.Phase.{Phase}
 use Rattle.hg_phases.specs.State.{Holds, changesets}
-use Rattle.hg_replica.specs.Content.{Content, content_of}
+use Rattle.hg_replica.specs.Content.{content_of}
 use Rattle.hg_replica.specs.Change.{ChangeValue}
-use Rattle.hg_replica.specs.Evolution.{HasPhase}
 use Rattle.hg_replica.specs.State.{IsSameState, ReplicaState, nothing_held}
 use Rattle.hg_trial.specs.declared.refusal.Refusal.{Refusal}
+use Rattle.hg_trial.specs.Differences.{HasOtherPhase, markers_lacked}
 use Rattle.hg_trial.specs.Trials.{IsFault, IsRefused, IsTaken}
 use Rattle.hg_view.specs.Kept.{KeptValue}
 use Rattle.hg_preview.specs.Lines.{IsLineOf}
@@ -22,17 +19,6 @@ use Rattle.hg_preview.specs.Lines.{IsLineOf}
 -- the changeset stands at this place of the one, and the other lacks it
 abbrev pub IsLackedAt : KeptValue → KeptValue → ℕ → Node → Type 0
 IsLackedAt lacking having place n = StandsAt having place n × ¬ (Holds lacking.replica.history n)
-
--- the markers of the second that the first lacks
-abbrev pub markers_lacked : List Fields → List Fields → List Fields
-markers_lacked lacking having = filter (λ m. not (holds lacking m)) having
-
--- both hold the changeset, in these phases, which are different
-abbrev pub ArePhases : Content → Content → Node → Phase × Phase → Type 0
-ArePhases f g n phases = HasPhase f n phases.0 × HasPhase g n phases.1 × (phases.0 ≢ phases.1)
-
-abbrev pub HasOtherPhase : Content → Content → Node → Type 0
-HasOtherPhase f g n = (phases : Phase × Phase) × ArePhases f g n phases
 
 -- the changeset stands at this place of the first, and the second holds it in another phase
 abbrev pub IsInOtherPhaseAt : KeptValue → KeptValue → ℕ → Node → Type 0

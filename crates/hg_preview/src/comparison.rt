@@ -1,20 +1,18 @@
 //! In what two repositories differ, as lines.
-ghost use Rattle.std.specs.Prelude.{◌≡◌, ◌≢◌, ◌↔◌, ◌<◌, ◌++◌, IfOk, IsTrue, MatchOption, OnOk, codes, decimal, length};
+ghost use Rattle.std.specs.Prelude.{◌≡◌, ◌↔◌, ◌<◌, ◌++◌, IfOk, IsTrue, OnOk, codes, decimal, length};
 ghost use Rattle.std.specs.Io.KnownBytes.{Appends};
 ghost use Rattle.hg_log.specs.Drawings.{Extends, IsLine, Text};
 ghost use Rattle.hg_phases.specs.State.{changesets};
-ghost use Rattle.hg_replica.specs.Content.{content_of};
 ghost use Rattle.hg_replica.specs.State.{IsSameState};
-ghost use Rattle.hg_preview.specs.Comparisons.{AreLinesWhere, ArePhases, HasOtherPhase, IsComparisonText, IsCountText};
+ghost use Rattle.hg_preview.specs.Comparisons.{AreLinesWhere, IsComparisonText, IsCountText, IsInOtherPhaseAt};
+ghost use Rattle.hg_preview.specs.Comparisons.{IsLackText, IsLackedAt, IsLineWhere, agreement};
 ghost use Rattle.hg_preview.specs.Lines.{IsLineOf};
-ghost use Rattle.hg_preview.specs.Comparisons.{IsInOtherPhaseAt, IsLackText, IsLackedAt, IsLineWhere};
-ghost use Rattle.hg_preview.specs.Comparisons.{agreement, markers_lacked};
 
 use hg_changeset::Node;
 use hg_log::{DrawFault, NamedNode, node_at, push_label, write_line};
-use hg_obsstore::Store;
 use hg_phases::Phase;
 use hg_replica::Replica;
+use hg_trial::{different_phases, markers_lacked};
 use hg_why::push_named;
 use std::alloc::{AllocError, Global};
 use std::io::Write;
@@ -125,20 +123,6 @@ fn push_lacks(line: &mut Vec<u8>, name: &[u8]) -> Result<(), AllocError> {
     line.extend_from_slice(b" lacks: ")
 }
 
-// How many markers of the second store the first one lacks.
-fn markers_lacked(lacking: &Store, having: &Store) -> usize
-    ensures { result ≡ length (markers_lacked lacking.now having.now) }
-{
-    let mut count = 0;
-    let markers = having.markers();
-    for marker in markers {
-        if !lacking.contains(marker) {
-            count += 1;
-        }
-    }
-    count
-}
-
 // Writes a line with how many markers are lacking, where some are.
 fn write_count<W: Write>(
     alloc: Global,
@@ -209,35 +193,6 @@ fn write_phases_at<W: Write>(
             Ok(())
         }
         None => Ok(()),
-    }
-}
-
-// The phases of a changeset at both, where they hold it in different ones.
-fn different_phases(
-    first: &Replica,
-    second: &Replica,
-    node: Node,
-) -> Result<Option<(Phase, Phase)>, AllocError>
-    ensures { IfOk result (λ phases. MatchOption phases
-        (¬ (HasOtherPhase (content_of first.now) (content_of second.now) node))
-        (ArePhases (content_of first.now) (content_of second.now) node)) }
-{
-    match first.phase_of(node)? {
-        Some(here) => match second.phase_of(node)? {
-            Some(there) => Ok(both_if_different(here, there)),
-            None => Ok(None),
-        },
-        None => Ok(None),
-    }
-}
-
-fn both_if_different(here: Phase, there: Phase) -> Option<(Phase, Phase)>
-    ensures { MatchOption result (here ≡ there) (λ phases. (phases ≡ (here, there)) × (here ≢ there)) }
-{
-    if here == there {
-        None
-    } else {
-        Some((here, there))
     }
 }
 

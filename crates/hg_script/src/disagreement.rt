@@ -3,9 +3,9 @@ use crate::explaining::push_node;
 use crate::fleet::Fleet;
 use hg_changeset::Node;
 use hg_graph::Graph;
-use hg_obsstore::Store;
 use hg_phases::Phase;
 use hg_replica::Replica;
+use hg_trial::{different_phases, markers_lacked};
 use std::alloc::{AllocError, Global};
 
 // So many changesets are named before it is said how many more there are.
@@ -51,7 +51,7 @@ fn push_lack(
     text: &mut Vec<u8>,
 ) -> Result<(), AllocError> {
     let nodes = missing(alloc, having.graph(), lacking.graph())?;
-    let markers = missing_markers(having.store(), lacking.store());
+    let markers = markers_lacked(lacking.store(), having.store());
     if nodes.is_empty() && markers == 0 {
         return Ok(());
     }
@@ -84,17 +84,6 @@ fn missing(alloc: Global, having: &Graph, lacking: &Graph) -> Result<Vec<Node>, 
         }
     }
     Ok(nodes)
-}
-
-// How many markers of the first store the second one lacks.
-fn missing_markers(having: &Store, lacking: &Store) -> usize {
-    let mut count: usize = 0;
-    for marker in having.markers() {
-        if !lacking.contains(marker) {
-            count = count.saturating_add(1);
-        }
-    }
-    count
 }
 
 // Appends what the first of the changesets are called, and how many more there are.
@@ -152,7 +141,10 @@ fn push_phases(
 ) -> Result<(), AllocError> {
     let mut count: usize = 0;
     for place in 0..sides.first.graph().len() {
-        if let Some((node, phases)) = differing(sides, place) {
+        let Some(node) = sides.first.graph().node_at(place) else {
+            continue;
+        };
+        if let Some(phases) = different_phases(sides.first, sides.second, node)? {
             if count < NAMED {
                 push_phase(fleet, sides, node, phases, text)?;
             }
@@ -160,18 +152,6 @@ fn push_phases(
         }
     }
     push_more(alloc, b"; ", count, text)
-}
-
-// The changeset at a place of the first replica with its phases, where the second one holds it in another phase.
-fn differing(sides: Sides<'_>, place: usize) -> Option<(Node, (Phase, Phase))> {
-    let node = sides.first.graph().node_at(place)?;
-    let here = sides.first.phase_at(place)?;
-    let there = sides.second.phase_at(sides.second.graph().place(node)?)?;
-    if here == there {
-        None
-    } else {
-        Some((node, (here, there)))
-    }
 }
 
 fn push_phase(

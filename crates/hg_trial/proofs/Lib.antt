@@ -1,2 +1,3 @@
+mod DifferenceLemmas
 mod MovedLemmas
 pub mod TrialLemmas

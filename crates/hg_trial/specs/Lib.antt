@@ -1,3 +1,4 @@
+pub mod Differences
 pub mod Moved
 pub mod Refusals
 pub mod Trials

@@ -24,12 +24,14 @@
 //! ```
 #![tactic(auto)]
 
+mod difference;
 mod moved;
 mod refusal;
 mod trial;
 mod tried;
 mod turned;
 
+pub use difference::{different_phases, markers_lacked};
 pub use hg_history::Fault;
 pub use hg_message::MessageFault;
 pub use hg_node_set::IdKeys;

@@ -2,7 +2,8 @@ use Rattle.std.proofs.Common.{◌∙◌, ◌++◌, ℕ, List, ap, ap₂, length,
 use Rattle.std.proofs.KnownBytes.{Appends-trans}
 use Rattle.hg_marker.specs.Fields.{Fields}
 use Rattle.hg_replica.specs.State.{ReplicaState}
-use Rattle.hg_preview.specs.Comparisons.{IsCountText, markers_lacked}
+use Rattle.hg_trial.specs.Differences.{markers_lacked}
+use Rattle.hg_preview.specs.Comparisons.{IsCountText}
 use Rattle.hg_preview.proofs.comparison.write_lack.Goals as goal
 
 pub returns : goal.returns

@@ -1,6 +1,6 @@
 use Rattle.std.proofs.Common.{◌≡◌, ◌≤◌, length, take}
-use Rattle.hg_preview.specs.Comparisons.{markers_lacked}
-use Rattle.hg_preview.proofs.comparison.markers_lacked.Given as goal
+use Rattle.hg_trial.specs.Differences.{markers_lacked}
+use Rattle.hg_trial.proofs.difference.markers_lacked.Given as goal
 
 -- so many of the markers so far are lacking
 abbrev pub invariant-loop-marker : goal.invariant-loop-marker

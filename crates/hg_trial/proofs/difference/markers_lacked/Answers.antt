@@ -1,8 +1,8 @@
 use Rattle.std.proofs.Common.{◌≡◌, ◌∙◌, Contains, arith, false, subst, sym, true≢false}
 use Rattle.hg_marker.specs.Fields.{Fields}
-use Rattle.hg_preview.proofs.ComparisonLemmas.{marker_held, marker_lacked}
-use Rattle.hg_preview.proofs.comparison.markers_lacked.Goals as goal
-use Rattle.hg_preview.proofs.comparison.markers_lacked.Goals.{then-not-contains, else-not-contains}
+use Rattle.hg_trial.proofs.DifferenceLemmas.{marker_held, marker_lacked}
+use Rattle.hg_trial.proofs.difference.markers_lacked.Goals as goal
+use Rattle.hg_trial.proofs.difference.markers_lacked.Goals.{then-not-contains, else-not-contains}
 
 pub loop-marker-preserved : goal.loop-marker-preserved
 loop-marker-preserved c =

@@ -1,5 +1,5 @@
-use Rattle.hg_preview.proofs.ComparisonLemmas.{not_held_first, not_held_second, told_phases}
-use Rattle.hg_preview.proofs.comparison.different_phases.Goals as goal
+use Rattle.hg_trial.proofs.DifferenceLemmas.{not_held_first, not_held_second, told_phases}
+use Rattle.hg_trial.proofs.difference.different_phases.Goals as goal
 
 pub returns-in-Some-2 : goal.returns-in-Some-2
 returns-in-Some-2 c =
