@@ -109,24 +109,40 @@ fn race_named<K: NodeName + Send + Sync, R: Threads + Wait + Sync>(
     requires name { blank.tokens.name ≡ K.name }
     requires parts { blank.tokens.parts ≡ K.parts }
 {
-    let node: Open<K, &R> = Node::new(rt, racer.lane.alloc, blank, OpenGate)?;
-    let Some((mut writes, mut takes)) = two_passes(rt, &node) else {
+    let alloc = racer.lane.alloc;
+    let node: Open<K, &R> = Node::new(rt, alloc, blank, OpenGate)?;
+    let Some(passes) = two_passes(rt, &node) else {
         return Ok(Outcome::NONE);
     };
+    let (counts, passes) = race_by(rt, &node, racer, passes);
+    let replica = close(alloc, node, passes)?;
+    Ok(Outcome {
+        counts: counts?,
+        replica,
+    })
+}
+
+// Lets a node race by these passes, and gives them back.
+fn race_by<K: NodeName + Send + Sync, R: Threads + Wait + Sync>(
+    rt: &R,
+    node: &Open<K, &R>,
+    racer: Racer,
+    passes: (Pass<K>, Pass<K>),
+) -> (Result<Counts, NoMemory>, (Pass<K>, Pass<K>)) {
     let Racer {
         lane,
         mut own,
         mut next,
     } = racer;
+    let (mut writes, mut takes) = passes;
     let counts = race_both(
         rt,
         &lane,
-        &node,
+        node,
         (&mut writes, &mut next),
         (&mut takes, &mut own),
-    )?;
-    let replica = close(lane.alloc, node, writes, takes)?;
-    Ok(Outcome { counts, replica })
+    );
+    (counts, (writes, takes))
 }
 
 // Lets the threads of a node do their rounds: one with what it writes by, the other with what it takes by.
@@ -163,10 +179,9 @@ fn two_passes<K: NodeName, R: Wait>(rt: &R, node: &Open<K, &R>) -> Option<(Pass<
 fn close<K: NodeName, R: Wait>(
     alloc: Global,
     node: Open<K, &R>,
-    writes: Pass<K>,
-    takes: Pass<K>,
+    passes: (Pass<K>, Pass<K>),
 ) -> Result<Option<Replica>, NoMemory> {
-    let passes = vec![in alloc; writes, takes]?;
+    let passes = vec![in alloc; passes.0, passes.1]?;
     match node.close(passes) {
         Ok(replica) => Ok(Some(replica)),
         Err(unclosed) => match unclosed.why {
