@@ -280,16 +280,10 @@ impl<K: NodeName, R: Wait + Drop> Desk<K, Writer<K, R>> {
             Ok(()) => {}
             Err(refusal) => return Err(refusal),
         }
-        let before = journal.front();
-        let entry = journal.extend(pass.seen(), pass.told(), entry);
-        let after = journal.front();
+        let step = noted(journal, pass, entry);
+        let after = step.after.again();
         pass.count(book);
-        pass.hear(after.again());
-        waiting.push_back_reserved(Step {
-            entry,
-            before,
-            after: after.again(),
-        });
+        waiting.push_back_reserved(step);
         match publish(writer, waiting, &after, gate) {
             Some(sight) => {
                 pass.see(sight);
@@ -321,6 +315,25 @@ impl<K: NodeName, R: Wait + Drop> Desk<K, Writer<K, R>> {
             Ok(replica) => Ok(replica),
             Err(_) => Err(CloseRefusal::NoMemory),
         }
+    }
+}
+
+// Adds an entry to the journal, tells the pass what the journal has then, and gives the step there.
+fn noted<K: NodeName>(journal: &mut Journal<K, Entry>, pass: &mut Pass<K>, entry: Entry) -> Step<K>
+    requires room { length journal.old < 2 ^ 62 }
+    ensures step { (result.entry ≡ entry) × (result.after ≡ journal.new) }
+    ensures journal { journal.new ≡ journal.old ++ entry ∷ [] }
+    ensures pass { pass.new ≡ record pass.old { told = journal.new } }
+    ensures begun { IsPrefix pass.old.seen journal.old × IsPrefix pass.old.told journal.old }
+{
+    let before = journal.front();
+    let entry = journal.extend(pass.seen(), pass.told(), entry);
+    let after = journal.front();
+    pass.hear(after.again());
+    Step {
+        entry,
+        before,
+        after,
     }
 }
 

@@ -22,9 +22,9 @@ use crate::entry::Entry;
 use crate::gate::Gate;
 use crate::name::NodeName;
 use crate::pass::Pass;
-use crate::store::{Published, Publisher, Writer};
+use crate::store::{Publisher, Writer, both_published};
 use hg_changeset::Node as Id;
-use hg_join::{JoinState, NoMemory};
+use hg_join::NoMemory;
 use hg_journal::Opened;
 use hg_peer::{Peer, Scope};
 use hg_replica::Replica;
@@ -100,17 +100,16 @@ impl<K: NodeName, G: Gate + Drop, R: Wait + Drop> Node<K, G, Writer<K, R>> {
         requires name { blank.tokens.name ≡ K.name }
         requires parts { blank.tokens.parts ≡ K.parts }
     {
+        let waiting = VecDeque::with_capacity(alloc, 1)?;
         let Blank {
             opening,
             opened,
             tokens,
         } = blank;
         let journal = opened.named::<K>();
-        let (book, rest) = tokens.open::<K>();
-        let first = Published::new(opening.copy()?, journal.front());
-        let second = Published::new(opening.copy()?, journal.front());
-        let waiting = VecDeque::with_capacity(alloc, 1)?;
+        let (first, second) = both_published(&opening, &journal)?;
         let writer = Writer::<K, R>::new(alloc, rt, first, second, 16)?;
+        let (book, rest) = tokens.open::<K>();
         Ok(Node {
             desk: Mutex::new(Desk::new(alloc, opening, journal, writer, waiting, book, rest)),
             gate,

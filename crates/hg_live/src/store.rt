@@ -1,11 +1,12 @@
 //! What readers of a node see, what changes it, and what is known of it.
-ghost use Rattle.std.specs.Prelude.{◌≡◌, ◌++◌, ◌∷◌, [], MatchBool};
+ghost use Rattle.std.specs.Prelude.{◌≡◌, ◌++◌, ◌∷◌, [], IfOk, MatchBool};
 ghost use mathlib.Core.List.{IsPrefix};
 ghost use Rattle.hg_live.specs.After.{IsAfter};
 
 use crate::entry::{Entry, accept};
 use crate::name::NodeName;
-use hg_journal::Front;
+use hg_join::{JoinState, NoMemory};
+use hg_journal::{Front, Journal};
 use hg_peer::Peer;
 use left_right::{Absorb, WriteHandle};
 use std::alloc::AllocError;
@@ -171,6 +172,20 @@ impl<K: NodeName> Absorb<Step<K>> for Published<K> {
 
 /// The writer of a node's store.
 pub type Writer<K, R> = WriteHandle<Published<K>, Step<K>, R>;
+
+// The opening state twice, as it is published before any entry was accepted.
+pub(crate) fn both_published<K: NodeName>(
+    opening: &Peer,
+    journal: &Journal<K, Entry>,
+) -> Result<(Published<K>, Published<K>), NoMemory>
+    requires opening { opening.now ≡ K.opening }
+    requires journal { journal.now ≡ [] }
+    ensures { IfOk result (λ both. (both.0 ≡ record { entries = []; state = opening.now }) × (both.1 ≡ both.0)) }
+{
+    let first = Published::new(opening.copy()?, journal.front());
+    let second = Published::new(opening.copy()?, journal.front());
+    Ok((first, second))
+}
 
 /// What a node publishes by. Contracts see the entries that readers see, and those that wait in it, in their order.
 pub trait Publisher {
