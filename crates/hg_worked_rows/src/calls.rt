@@ -1,15 +1,52 @@
 //! Calls that can be refused memory and that no other row makes: each once with ample memory, and its answer.
 use crate::making::{EMPTY, ONES, TWOS, empty, mark, push, replica_of, replica_of_empty};
 use hg_changeset::{Changeset, Node};
+use hg_graph::{Added, Graph};
 use hg_history::History;
 use hg_instab::Instabilities;
 use hg_join::JoinState;
 use hg_obsstore::Store;
-use hg_phases::Phase;
-use hg_replica::{Part, Replica};
-use hg_view::{PinRefusal, Pins};
+use hg_phases::{Phase, PhaseMap, PhaseRoots, Roots};
+use hg_replica::{Change, Part, Replica};
+use hg_view::{Kept, PinRefusal, Pins, served, share};
 use std::alloc::Global;
 use std::borrow::CowSlice;
+use std::collections::BTreeSet;
+
+#[test]
+fn changesets_are_added_to_a_graph_once_and_copied(rt: HostRuntime) {
+    let alloc = rt.alloc();
+    let root = Changeset::new(Node::NULL, Node::NULL, Vec::new(alloc)).expect(&rt, "a root");
+    let copy = root.copy().expect(&rt, "memory");
+    assert!(rt; copy == root && copy.node() == EMPTY && copy.text().is_empty());
+    let mut graph = Graph::new(alloc);
+    let before = graph.copy().expect(&rt, "memory");
+    assert!(rt; graph.add(root) == Ok(Added::New) && graph.add(copy) == Ok(Added::Known));
+    let after = graph.copy().expect(&rt, "memory");
+    assert!(rt; before.is_empty() && after.len() == 1 && after.node_at(0) == Some(EMPTY));
+}
+
+// The graph of the root without a text, and a list of it as a draft root.
+fn graph_of_empty(alloc: Global) -> Option<(Graph, Roots)> {
+    let root = Changeset::new(Node::NULL, Node::NULL, Vec::new(alloc)).ok()?;
+    let mut graph = Graph::new(alloc);
+    graph.add(root).ok()?;
+    let listed = Vec::from_slice(alloc, &[(Phase::Draft, EMPTY)]).ok()?;
+    Some((graph, Roots::new(listed)))
+}
+
+#[test]
+fn phases_are_copied_in_both_forms(rt: HostRuntime) {
+    let alloc = rt.alloc();
+    let (graph, roots) = graph_of_empty(alloc).expect(&rt, "memory");
+    let map = PhaseMap::open(alloc, &graph, &roots).expect(&rt, "memory");
+    let kept = PhaseRoots::open(alloc, &graph, &roots).expect(&rt, "memory");
+    let map_copy = map.copy().expect(&rt, "memory");
+    let kept_copy = kept.copy().expect(&rt, "memory");
+    assert!(rt; map_copy.phase_of(&graph, EMPTY) == Ok(Some(Phase::Draft)));
+    assert!(rt; kept_copy.phase_of(&graph, EMPTY) == Ok(Some(Phase::Draft)));
+    assert!(rt; kept_copy.roots.places() == [0usize].as_slice());
+}
 
 // The history that holds the root without a text, in this phase.
 fn history_of_empty(alloc: Global, phase: Phase) -> Option<History> {
@@ -67,6 +104,20 @@ fn stores_join(rt: HostRuntime) {
     assert!(rt; before.below(&store) == Ok(true) && other.below(&store) == Ok(true));
 }
 
+#[test]
+fn markers_are_added_to_a_store_once_and_copied(rt: HostRuntime) {
+    let alloc = rt.alloc();
+    let part = part_of_marker(alloc, ONES, TWOS).expect(&rt, "memory");
+    let marker = part.markers.first().expect(&rt, "a marker");
+    let copy = marker.copy().expect(&rt, "memory");
+    assert!(rt; copy.predecessor() == ONES && copy.successors() == [TWOS].as_slice());
+    let again = copy.copy().expect(&rt, "memory");
+    let mut store = Store::new(alloc);
+    assert!(rt; store.add(copy) == Ok(hg_obsstore::Added::New));
+    assert!(rt; store.add(again) == Ok(hg_obsstore::Added::Known));
+    assert!(rt; store.len() == 1 && store.get(0) == Some(marker));
+}
+
 // The replica of two draft roots.
 fn two_roots(alloc: Global) -> Option<(Replica, [Node; 2])> {
     let mut part = empty(alloc);
@@ -86,6 +137,138 @@ fn sets_are_brought_up_to_date_and_copied(rt: HostRuntime) {
     assert!(rt; sets.update(&replica, &change) == Ok(()));
     assert!(rt; sets.obsolete().contains(&one) && sets.extinct().contains(&one));
     assert!(rt; !sets.obsolete().contains(&other) && before.extinct().is_empty());
+}
+
+// Whether a changeset is in each of the six sets.
+fn kinds(sets: &Instabilities, node: Node) -> [bool; 6] {
+    [
+        sets.obsolete().contains(&node),
+        sets.orphan().contains(&node),
+        sets.suspended().contains(&node),
+        sets.extinct().contains(&node),
+        sets.phase_divergent().contains(&node),
+        sets.content_divergent().contains(&node),
+    ]
+}
+
+// What was rewritten while a child stands on it, and that child; and both once the child is pruned too.
+const BEFORE: [[bool; 6]; 2] = [
+    [true, false, true, false, false, false],
+    [false, true, false, false, false, false],
+];
+
+const AFTER: [[bool; 6]; 2] = [[true, false, false, true, false, false]; 2];
+
+// A replica of two draft roots, one of which was rewritten to the other, and of a child of that one, with its sets.
+// Then the child was pruned, which the change tells.
+#[derive(Drop)]
+struct BeforeUpdate {
+    replica: Replica,
+    sets: Instabilities,
+    change: Change,
+    nodes: [Node; 2],
+}
+
+// What is there before the sets are brought up to date.
+fn outdated(alloc: Global) -> Option<BeforeUpdate> {
+    let mut part = empty(alloc);
+    let root = push(alloc, &mut part, Node::NULL, b"b", Phase::Draft)?;
+    let child = push(alloc, &mut part, root, b"c", Phase::Draft)?;
+    let other = push(alloc, &mut part, Node::NULL, b"x", Phase::Draft)?;
+    mark(alloc, &mut part, root, &[other], 0)?;
+    let mut replica = replica_of(alloc, &part)?;
+    let sets = Instabilities::from_scratch(alloc, &replica).ok()?;
+    let mut part = empty(alloc);
+    mark(alloc, &mut part, child, &[], 0)?;
+    let change = replica.absorb(&part).ok()?;
+    Some(BeforeUpdate {
+        replica,
+        sets,
+        change,
+        nodes: [root, child],
+    })
+}
+
+// What the sets say of both.
+fn told(pruned: &BeforeUpdate) -> [[bool; 6]; 2] {
+    [
+        kinds(&pruned.sets, pruned.nodes[0]),
+        kinds(&pruned.sets, pruned.nodes[1]),
+    ]
+}
+
+// Whether the sets were brought up to date.
+fn is_updated(pruned: &mut BeforeUpdate) -> bool {
+    pruned.sets.update(&pruned.replica, &pruned.change).is_ok()
+}
+
+#[test]
+fn refused_growth_in_an_update_leaves_the_sets_as_they_were(rt: HostRuntime) {
+    let Some(mut pruned) = outdated(rt.alloc()) else {
+        return;
+    };
+    assert!(rt; told(&pruned) == BEFORE);
+    if !is_updated(&mut pruned) {
+        assert!(rt; told(&pruned) == BEFORE && is_updated(&mut pruned));
+    }
+    assert!(rt; told(&pruned) == AFTER);
+}
+
+// Whether the set has these changesets and no others, where none is named twice.
+fn has_exactly(set: &BTreeSet<Node>, nodes: &[Node]) -> bool {
+    nodes.iter().all(|node| set.contains(node)) && set.len() == nodes.len()
+}
+
+// Whether exactly these are in view.
+fn are_in_view(kept: &Kept, nodes: &[Node]) -> bool {
+    match kept.visible() {
+        Ok(set) => has_exactly(&set, nodes),
+        Err(_) => false,
+    }
+}
+
+#[test]
+fn what_is_kept_absorbs_is_pinned_and_is_copied(rt: HostRuntime) {
+    let alloc = rt.alloc();
+    let (replica, [one, other]) = two_roots(alloc).expect(&rt, "memory");
+    let part = part_of_marker(alloc, one, other).expect(&rt, "memory");
+    let mut kept = Kept::new(alloc, replica).expect(&rt, "memory");
+    let before = kept.copy().expect(&rt, "memory");
+    let change = kept.absorb(&part).expect(&rt, "a change");
+    assert!(rt; change.added.is_empty() && change.markers.as_slice() == [0usize].as_slice());
+    assert!(rt; are_in_view(&kept, &[other]) && are_in_view(&before, &[one, other]));
+    assert!(rt; kept.pin(one) == Ok(()) && are_in_view(&kept, &[one, other]));
+    let pinned = kept.copy().expect(&rt, "memory");
+    assert!(rt; kept.unpin(one) == Ok(()) && are_in_view(&kept, &[other]));
+    assert!(rt; kept.unpin(one) == Err(PinRefusal::NotPinned(one)));
+    assert!(rt; are_in_view(&pinned, &[one, other]));
+}
+
+// The replica of a public, a draft and a secret root, and of a draft root that was pruned, in this order.
+fn four_roots(alloc: Global) -> Option<(Replica, [Node; 4])> {
+    let mut part = empty(alloc);
+    let public = push(alloc, &mut part, Node::NULL, b"p", Phase::Public)?;
+    let draft = push(alloc, &mut part, Node::NULL, b"d", Phase::Draft)?;
+    let secret = push(alloc, &mut part, Node::NULL, b"s", Phase::Secret)?;
+    let pruned = push(alloc, &mut part, Node::NULL, b"g", Phase::Draft)?;
+    mark(alloc, &mut part, pruned, &[], 0)?;
+    Some((replica_of(alloc, &part)?, [public, draft, secret, pruned]))
+}
+
+// The phases with which these are shared, where they are.
+fn shared(alloc: Global, replica: &Replica, nodes: [Node; 4]) -> Option<[Option<Phase>; 4]> {
+    let shared = share(alloc, replica).ok()?;
+    Some(nodes.map(|node| shared.get(&node).copied()))
+}
+
+#[test]
+fn what_is_hidden_is_shared_and_not_served(rt: HostRuntime) {
+    let alloc = rt.alloc();
+    let (replica, nodes) = four_roots(alloc).expect(&rt, "memory");
+    let told = served(alloc, &replica, &Pins::new(alloc)).expect(&rt, "memory");
+    assert!(rt; has_exactly(&told, &nodes[..2]));
+    let (public, draft) = (Some(Phase::Public), Some(Phase::Draft));
+    assert!(rt; shared(alloc, &replica, nodes) == Some([public, draft, None, draft]));
 }
 
 #[test]

@@ -1,11 +1,13 @@
 //! A chain of three, of which another side holds two: what its graph tells, what is asked about it, and what is offered
 //! above what both hold.
-use crate::making::chain;
+use crate::making::{chain, operate, prune};
 use hg_changeset::Node;
 use hg_discovery::{Discovery, DiscoveryError, known};
 use hg_message::{Scope, offer};
 use hg_phases::Phase;
+use hg_replica::Replica;
 use hg_view::Pins;
+use std::alloc::Global;
 
 // The changesets of the chain, by their texts.
 const A: Node = Node([
@@ -72,4 +74,33 @@ fn one_who_holds_less_is_offered_the_rest(rt: HostRuntime) {
     assert!(rt; message.changesets().len() == 1 && message.changesets()[0].node() == C);
     assert!(rt; message.bounds() == [(C, Phase::Draft)].as_slice());
     assert!(rt; message.markers().is_empty());
+}
+
+// Prunes the head of the chain and then what it stood on.
+fn prune_two(alloc: Global, replica: &mut Replica) -> Option<()> {
+    for node in [C, B] {
+        operate(alloc, replica, &prune(alloc, node, b"fleet")?)?;
+    }
+    Some(())
+}
+
+// The yes was true when it was given.
+#[test]
+fn a_yes_for_what_is_pruned_after_it_leaves_it_common(rt: HostRuntime) {
+    let alloc = rt.alloc();
+    let pins = Pins::new(alloc);
+    let asker = chain(alloc, b"ab").expect(&rt, "memory");
+    let mut other = chain(alloc, b"abc").expect(&rt, "memory");
+    let mut discovery = Discovery::start(alloc, &asker).expect(&rt, "memory");
+    let sample = discovery.sample().expect(&rt, "memory");
+    let answers = known(alloc, &other, &pins, &sample).expect(&rt, "memory");
+    prune_two(alloc, &mut other).expect(&rt, "memory");
+    let now = known(alloc, &other, &pins, &sample).expect(&rt, "memory");
+    assert!(rt; sample.as_slice() == [B, A].as_slice());
+    assert!(rt; answers.as_slice() == [true, true].as_slice());
+    assert!(rt; now.as_slice() == [false, true].as_slice());
+    assert!(rt; discovery.answer(&answers) == Ok(()) && discovery.done());
+    let heads = discovery.common_heads().expect(&rt, "memory");
+    assert!(rt; heads.as_slice() == [B].as_slice());
+    assert!(rt; asker.graph().contains(B) && other.graph().contains(B));
 }

@@ -55,6 +55,24 @@ fn a_text_and_metadata_that_are_too_long_are_faults(rt: HostRuntime) {
     assert!(rt; is_fault(alloc, &replica, &op, cause));
 }
 
+// To split a node into these two descriptions.
+fn split(alloc: Global, node: Node, one: &[u8], other: &[u8]) -> Option<Op> {
+    let mut entries = Vec::new(alloc);
+    entries.push(entry(alloc, b"fleet", one)?).ok()?;
+    entries.push(entry(alloc, b"fleet", other)?).ok()?;
+    Some(Op::Split { node, entries })
+}
+
+#[test]
+fn a_split_into_a_short_text_and_one_that_is_too_long_is_a_fault(rt: HostRuntime) {
+    let alloc = rt.alloc();
+    let replica = replica_of_empty(alloc, Phase::Draft).expect(&rt, "memory");
+    let long = vec![in alloc; b'x'; 1_048_576].expect(&rt, "memory");
+    let op = split(alloc, EMPTY, b"a", &long).expect(&rt, "memory");
+    let cause = Cause::Changeset(ChangesetError::TextTooLong);
+    assert!(rt; is_fault(alloc, &replica, &op, cause));
+}
+
 // A root `a` by `fleet`, and a child of it.
 fn stack(alloc: Global) -> Option<(Replica, Node)> {
     let mut replica = Replica::new(alloc);

@@ -3,7 +3,8 @@
 //! read what a call is for, and see that it comes. Nothing here is refused memory but where a test says so.
 //!
 //! A row that a script can ask is no test but a case of `examples/`. The rows of nodes and inboxes, which threads
-//! share, are in `hg_live_tests`. No row is left out for the time that its proof takes.
+//! share, are in `hg_live_tests`. Those of sets of ids are in `hg_history_tests`, and most of those of refused growth
+//! are there, in `hg_replica_tests` and in `hg_peer_tests`. No row is left out for the time that its proof takes.
 #![tactic(auto)]
 
 #[cfg(test)]
@@ -30,6 +31,8 @@ mod replicas;
 mod roots;
 #[cfg(test)]
 mod splits;
+#[cfg(test)]
+mod states;
 #[cfg(test)]
 mod successors;
 #[cfg(test)]

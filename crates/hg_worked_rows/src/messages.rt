@@ -1,8 +1,10 @@
 //! Messages byte for byte, and what a replica takes of them.
-use crate::making::ONES;
-use hg_changeset::Node;
+use crate::making::{EMPTY, ONES, TWOS};
+use hg_changeset::{Changeset, Node};
+use hg_marker::{Marker, TextMap};
 use hg_message::{Message, Scope};
-use hg_replica::{Fault, Replica};
+use hg_phases::Phase;
+use hg_replica::{Fault, Part, Replica};
 use std::alloc::Global;
 
 // The messages of an empty replica: no records, no bounds, and a store of one byte.
@@ -35,4 +37,37 @@ fn a_message_with_a_bound_of_what_is_not_held_is_read_and_not_absorbed(rt: HostR
     let alloc = rt.alloc();
     assert!(rt; fault_of_bound(alloc, Node::NULL) == Some(Fault::NullBound));
     assert!(rt; fault_of_bound(alloc, ONES) == Some(Fault::UnknownBound(ONES)));
+}
+
+// The message of the root without a text, a public bound of it and a marker.
+fn message_of_each(alloc: Global) -> Option<Message> {
+    let root = Changeset::new(Node::NULL, Node::NULL, Vec::new(alloc)).ok()?;
+    let marker = Marker::new(ONES, &[TWOS], 0, &TextMap::new(alloc)).ok()?;
+    let bounds = Vec::from_slice(alloc, &[(EMPTY, Phase::Public)]).ok()?;
+    let (mut changesets, mut markers) = (Vec::new(alloc), Vec::new(alloc));
+    changesets.push(root).ok()?;
+    markers.push(marker).ok()?;
+    Message::new(Scope::Whole, changesets, bounds, markers).ok()
+}
+
+// Whether the part is of these three, and of a draft bound: what is passed on is no longer secret.
+fn has_each(part: &Part) -> bool {
+    match (part.changesets.as_slice(), part.markers.as_slice()) {
+        ([root], [marker]) => root.node() == EMPTY
+            && root.text().is_empty()
+            && part.bounds.as_slice() == [(EMPTY, Phase::Public), (EMPTY, Phase::Draft)].as_slice()
+            && marker.predecessor() == ONES
+            && marker.successors() == [TWOS].as_slice(),
+        _ => false,
+    }
+}
+
+#[test]
+fn a_message_and_its_copy_have_what_it_was_made_of_as_their_part(rt: HostRuntime) {
+    let alloc = rt.alloc();
+    let message = message_of_each(alloc).expect(&rt, "memory");
+    let copy = message.copy().expect(&rt, "memory");
+    assert!(rt; message.scope() == Scope::Whole && copy.scope() == Scope::Whole);
+    assert!(rt; has_each(&message.part().expect(&rt, "memory")));
+    assert!(rt; has_each(&copy.part().expect(&rt, "memory")));
 }

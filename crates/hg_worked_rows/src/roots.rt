@@ -1,10 +1,11 @@
 //! Phase roots: their text, what opens with it, and where they stand while phases go down.
-use crate::making::{are_same, commit, empty, entry, operate, push, replica_of_empty};
+use crate::making::{ONES, are_same, commit, empty, entry, operate, push, replica_of_empty};
 use hg_changeset::Node;
+use hg_history::History;
 use hg_obsstore::Store;
 use hg_phaseroots::{read_roots, roots_text};
-use hg_phases::Phase;
-use hg_replica::Replica;
+use hg_phases::{Phase, Roots};
+use hg_replica::{Fault, Part, Replica};
 use hg_rewrite::Op;
 use std::alloc::Global;
 
@@ -59,6 +60,26 @@ fn the_highest_of_the_listed_roots_decides_and_no_root_is_public(rt: HostRuntime
         let told = opened(alloc, text);
         assert!(rt; told == Some((count, [Some(phase), Some(phase)])));
     }
+}
+
+// The part of a root, and of a changeset whose parent isn't held.
+fn part_with_a_gap(alloc: Global) -> Option<Part> {
+    let mut part = empty(alloc);
+    push(alloc, &mut part, Node::NULL, b"", Phase::Public)?;
+    push(alloc, &mut part, ONES, b"x", Phase::Public)?;
+    Some(part)
+}
+
+#[test]
+fn nothing_opens_with_a_changeset_whose_parent_is_not_held(rt: HostRuntime) {
+    let alloc = rt.alloc();
+    let part = part_with_a_gap(alloc).expect(&rt, "memory");
+    let roots = Roots::new(Vec::new(alloc));
+    let unknown = Some(Fault::UnknownParent(ONES));
+    let history = History::open(alloc, &part.changesets, &roots);
+    assert!(rt; history.err() == unknown);
+    let replica = Replica::open(&part.changesets, &roots, Store::new(alloc));
+    assert!(rt; replica.err() == unknown);
 }
 
 // Changesets by their descriptions, of user `fleet` at `0 0`: `m` merges `p` and `q`, and `d` stands on it.
