@@ -43,9 +43,8 @@ impl Graph {
         ensures marked { (a : Node) → IsMarkedNode self.now marks.new a
             ↔ ((d : Node) × IsMarkedNode self.now marks.old d × Reaches self.now a d) }
     {
-        // It says that this is a graph.
-        let count = self.len();
-        self.sweep(0, count, marks);
+        self.is_valid();
+        self.sweep(0, self.len(), marks);
     }
 
     // Marks the nodes that are held, and their ancestors.

@@ -9,7 +9,7 @@ use Rattle.hg_phases.specs.declared.phase_roots.PhaseRoots.{PhaseRoots}
 use Rattle.hg_phases.specs.State.{State, Held, IsValid, held_of, state_of}
 use Rattle.hg_phases.specs.Log.{restored}
 use Rattle.hg_phases.specs.Kept.{IsLogOf}
-use Rattle.hg_phases.specs.RootPlaces.{AreRootPlaces, AreKept}
+use Rattle.hg_phases.specs.RootPlaces.{AreRootPlaces, ArePhasesAndRoots}
 use Rattle.hg_phases.proofs.PlaceLemmas.{changesets-held_of}
 use Rattle.hg_history.specs.Steps.{CanTakeBack}
 use Rattle.hg_history.specs.Undo.{UndoValue, LeadsBack}
@@ -83,8 +83,8 @@ module _ (cs ds : List Contents) (kept : PhaseRoots) (ls : List Phase) (log : Li
   state_back es qs same are i = state_of ((same ∙ front_back) i) ((are ∙ phases_back) i)
 
   pub kept_back : (es : List Contents) (now : PhaseRoots) → es ≡ take before ds
-      → now.phases ≡ take before (restored ls log) → now.roots ≡ kept.roots → AreKept cs kept
-      → IsValid (state_of cs kept.phases) → AreKept es now × IsValid (state_of es now.phases)
+      → now.phases ≡ take before (restored ls log) → now.roots ≡ kept.roots → ArePhasesAndRoots cs kept
+      → IsValid (state_of cs kept.phases) → ArePhasesAndRoots es now × IsValid (state_of es now.phases)
   kept_back es now graph phases roots keeps valid =
       let same = graph ∙ front_back in
       let are = phases ∙ phases_back in (

@@ -14,10 +14,10 @@ ghost use Rattle.hg_graph.specs.Graph.{Holds, nodes};
 ghost use Rattle.hg_graph.specs.Places.{IsAt};
 ghost use Rattle.hg_phases.specs.declared.phase.Phase.{Phase};
 ghost use Rattle.hg_phases.specs.State.{state_of, IsValid};
-ghost use Rattle.hg_phases.specs.Kept.{phases_at, kept_state, before_last, phases_before, IsLogOf};
+ghost use Rattle.hg_phases.specs.Kept.{phases_at, before_last, phases_before, IsLogOf};
 ghost use Rattle.hg_phases.specs.Log.{IsLog};
 ghost use Rattle.hg_phases.specs.Lowered.{IsAbove};
-ghost use Rattle.hg_phases.specs.RootPlaces.{AreKept};
+ghost use Rattle.hg_phases.specs.RootPlaces.{ArePhasesAndRoots};
 ghost use Rattle.hg_history.specs.Answer.{AbsorbAnswer, AreHeldUpTo, IsAbsorbed, IsGrowthBeforeFault, HasHigher};
 ghost use Rattle.hg_history.specs.Answer.{IsRefusal, part_with};
 ghost use Rattle.hg_history.specs.Change.{IsNothing};
@@ -46,17 +46,17 @@ pub(crate) fn absorb_or_undo(
     changesets: CowSlice<'_, Changeset>,
     bounds: &[(Node, Phase)],
 ) -> Result<Absorbed<Change, Undo>, Fault>
-    requires kept { AreKept graph.old kept.old }
-    requires valid { IsValid (kept_state graph.old kept.old.phases) }
-    ensures inside { AreKept graph.new kept.new × IsValid (kept_state graph.new kept.new.phases) }
-    ensures answer { AbsorbAnswer (kept_state graph.old kept.old.phases) (part_with changesets.entry bounds.now)
-        (without_undo result) (kept_state graph.new kept.new.phases) }
-    ensures back { IfOk result (λ absorbed. LeadsBack (kept_state graph.new kept.new.phases) absorbed.undo
-        (kept_state graph.old kept.old.phases)) }
+    requires kept { ArePhasesAndRoots graph.old kept.old }
+    requires valid { IsValid (state_of graph.old kept.old.phases) }
+    ensures inside { ArePhasesAndRoots graph.new kept.new × IsValid (state_of graph.new kept.new.phases) }
+    ensures answer { AbsorbAnswer (state_of graph.old kept.old.phases) (part_with changesets.entry bounds.now)
+        (without_undo result) (state_of graph.new kept.new.phases) }
+    ensures back { IfOk result (λ absorbed. LeadsBack (state_of graph.new kept.new.phases) absorbed.undo
+        (state_of graph.old kept.old.phases)) }
     ensures growth { IfOk result (λ absorbed. IsNothing absorbed.change
-        ⊎ IsGrowthBeforeFault (kept_state graph.old kept.old.phases) (part_with changesets.entry bounds.now)) }
+        ⊎ IsGrowthBeforeFault (state_of graph.old kept.old.phases) (part_with changesets.entry bounds.now)) }
     ensures memory { IsErrOf result Fault.NoMemory
-        → IsGrowthBeforeFault (kept_state graph.old kept.old.phases) (part_with changesets.entry bounds.now) }
+        → IsGrowthBeforeFault (state_of graph.old kept.old.phases) (part_with changesets.entry bounds.now) }
 {
     let before = graph.len();
     let mut log = LoweringLog::new(alloc);
@@ -83,20 +83,20 @@ fn absorb_and_update(
     changesets: CowSlice<'_, Changeset>,
     bounds: &[(Node, Phase)],
 ) -> Result<Change, Fault>
-    requires kept { AreKept graph.old kept.old }
-    requires valid { IsValid (kept_state graph.old kept.old.phases) }
+    requires kept { ArePhasesAndRoots graph.old kept.old }
+    requires valid { IsValid (state_of graph.old kept.old.phases) }
     requires fresh { log.old ≡ [] }
     ensures back { CanTakeBack graph.old (phases_at graph.old kept.old.phases) graph.new kept.new.phases log.new }
-    ensures kept { OnOk result (AreKept graph.new kept.new) }
+    ensures kept { OnOk result (ArePhasesAndRoots graph.new kept.new) }
     ensures roots { OnErr result (kept.new.roots ≡ kept.old.roots) }
     ensures absorbed { IfOk result
-        (λ change. IsAbsorbed (kept_state graph.old kept.old.phases) (part_with changesets.entry bounds.now) change
-        (kept_state graph.new kept.new.phases)) }
+        (λ change. IsAbsorbed (state_of graph.old kept.old.phases) (part_with changesets.entry bounds.now) change
+        (state_of graph.new kept.new.phases)) }
     ensures refusal { IfErr result (IsRefusal graph.old (part_with changesets.entry bounds.now)) }
     ensures growth { IfOk result (λ change. IsNothing change
-        ⊎ IsGrowthBeforeFault (kept_state graph.old kept.old.phases) (part_with changesets.entry bounds.now)) }
+        ⊎ IsGrowthBeforeFault (state_of graph.old kept.old.phases) (part_with changesets.entry bounds.now)) }
     ensures memory { IsErrOf result Fault.NoMemory
-        → IsGrowthBeforeFault (kept_state graph.old kept.old.phases) (part_with changesets.entry bounds.now) }
+        → IsGrowthBeforeFault (state_of graph.old kept.old.phases) (part_with changesets.entry bounds.now) }
 {
     let before = graph.len();
     match absorb_logged(graph, &mut kept.phases, log, alloc, changesets, bounds) {
@@ -136,17 +136,17 @@ fn absorb_logged(
     bounds: &[(Node, Phase)],
 ) -> Result<Change, Fault>
     requires len { length (phases_at graph.old phases.old) ≡ length graph.old }
-    requires valid { IsValid (kept_state graph.old phases.old) }
+    requires valid { IsValid (state_of graph.old phases.old) }
     requires fresh { log.old ≡ [] }
     ensures back { CanTakeBack graph.old (phases_at graph.old phases.old) graph.new phases.new log.new }
     ensures absorbed { IfOk result
-        (λ change. IsAbsorbed (kept_state graph.old phases.old) (part_with changesets.entry bounds.now) change
-        (kept_state graph.new phases.new)) }
+        (λ change. IsAbsorbed (state_of graph.old phases.old) (part_with changesets.entry bounds.now) change
+        (state_of graph.new phases.new)) }
     ensures refusal { IfErr result (IsRefusal graph.old (part_with changesets.entry bounds.now)) }
     ensures growth { OnOk result (¬ ((log.new ≡ []) × (length graph.old ≡ length graph.new))
-        → IsGrowthBeforeFault (kept_state graph.old phases.old) (part_with changesets.entry bounds.now)) }
+        → IsGrowthBeforeFault (state_of graph.old phases.old) (part_with changesets.entry bounds.now)) }
     ensures memory { IsErrOf result Fault.NoMemory
-        → IsGrowthBeforeFault (kept_state graph.old phases.old) (part_with changesets.entry bounds.now) }
+        → IsGrowthBeforeFault (state_of graph.old phases.old) (part_with changesets.entry bounds.now) }
 {
     let before = graph.len();
     match add_arriving(graph, phases, changesets) {
@@ -172,7 +172,7 @@ fn add_arriving(
     changesets: CowSlice<'_, Changeset>,
 ) -> Result<(), Fault>
     requires len { length (phases_at graph.old phases.old) ≡ length graph.old }
-    requires valid { IsValid (kept_state graph.old phases.old) }
+    requires valid { IsValid (state_of graph.old phases.old) }
     ensures { AddAllAnswer graph.old (phases_at graph.old phases.old) (cow_slice_items changesets.entry) result
         graph.new (phases_at graph.new phases.new) }
 {
@@ -189,7 +189,7 @@ fn add_changesets(
     changesets: &[Changeset],
 ) -> Result<(), Fault>
     requires len { length (phases_at graph.old phases.old) ≡ length graph.old }
-    requires valid { IsValid (kept_state graph.old phases.old) }
+    requires valid { IsValid (state_of graph.old phases.old) }
     ensures { AddAllAnswer graph.old (phases_at graph.old phases.old) changesets.now result graph.new
         (phases_at graph.new phases.new) }
 {
@@ -210,7 +210,7 @@ fn add_owned_changesets(
     changesets: Vec<Changeset>,
 ) -> Result<(), Fault>
     requires len { length (phases_at graph.old phases.old) ≡ length graph.old }
-    requires valid { IsValid (kept_state graph.old phases.old) }
+    requires valid { IsValid (state_of graph.old phases.old) }
     ensures { AddAllAnswer graph.old (phases_at graph.old phases.old) changesets.items result graph.new
         (phases_at graph.new phases.new) }
 {
@@ -348,17 +348,17 @@ fn lower_to(
     phase: Phase,
 ) -> Result<(), AllocError>
     requires len { length (phases_at graph.now phases.old) ≡ length graph.now }
-    requires valid { IsValid (kept_state graph.now phases.old) }
+    requires valid { IsValid (state_of graph.now phases.old) }
     requires held { AreHeldUpTo graph.now bounds.now (length bounds.now) }
     ensures len { length (phases_at graph.now phases.new) ≡ length (phases_at graph.now phases.old) }
-    ensures valid { OnOk result (IsValid (kept_state graph.now phases.new)) }
+    ensures valid { OnOk result (IsValid (state_of graph.now phases.new)) }
     ensures lowered { OnOk result (IsLoweredTo graph.now bounds.now phase (phases_at graph.now phases.old)
         (phases_at graph.now phases.new)) }
     ensures logged { (start : List Phase) → IsLog phase start (phases_at graph.now phases.old) log.old
         → IsLog phase start (phases_at graph.now phases.new) log.new }
     ensures undoes { phases_before graph.now phases.new log.new ≡ phases_before graph.now phases.old log.old }
-    ensures memory { OnErr result (HasHigher (kept_state graph.now phases.old) bounds.now) }
-    ensures still { HasHigher (kept_state graph.now phases.old) bounds.now
+    ensures memory { OnErr result (HasHigher (state_of graph.now phases.old) bounds.now) }
+    ensures still { HasHigher (state_of graph.now phases.old) bounds.now
         ⊎ ((phases_at graph.now phases.new ≡ phases_at graph.now phases.old) × (log.new ≡ log.old)) }
 {
     for bound in bounds {
@@ -377,7 +377,7 @@ pub(crate) fn lower_bound(
     phase: Phase,
 ) -> Result<(), AllocError>
     requires len { length (phases_at graph.now phases.old) ≡ length graph.now }
-    requires valid { IsValid (kept_state graph.now phases.old) }
+    requires valid { IsValid (state_of graph.now phases.old) }
     requires held { Holds graph.now bound.0 }
     ensures len { length (phases_at graph.now phases.new) ≡ length (phases_at graph.now phases.old) }
     ensures lowered { OnOk result (OneLowered graph.now bound phase (phases_at graph.now phases.old)
@@ -385,8 +385,8 @@ pub(crate) fn lower_bound(
     ensures logged { (start : List Phase) → IsLog phase start (phases_at graph.now phases.old) log.old
         → IsLog phase start (phases_at graph.now phases.new) log.new }
     ensures undoes { phases_before graph.now phases.new log.new ≡ phases_before graph.now phases.old log.old }
-    ensures memory { OnErr result (IsAbove (kept_state graph.now phases.old) bound.0 bound.1) }
-    ensures still { IsAbove (kept_state graph.now phases.old) bound.0 bound.1
+    ensures memory { OnErr result (IsAbove (state_of graph.now phases.old) bound.0 bound.1) }
+    ensures still { IsAbove (state_of graph.now phases.old) bound.0 bound.1
         ⊎ ((phases_at graph.now phases.new ≡ phases_at graph.now phases.old) × (log.new ≡ log.old)) }
 {
     if bound.1 == phase {

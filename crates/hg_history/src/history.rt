@@ -35,16 +35,15 @@ pub struct History {
 }
 
 impl Model for History {
-    ghost use Rattle.hg_phases.specs.State.{State, IsValid};
-    ghost use Rattle.hg_phases.specs.Kept.{kept_state};
-    ghost use Rattle.hg_phases.specs.RootPlaces.{AreKept};
+    ghost use Rattle.hg_phases.specs.State.{State, IsValid, state_of};
+    ghost use Rattle.hg_phases.specs.RootPlaces.{ArePhasesAndRoots};
 
     ghost Value = { State };
 
-    ghost view = { λ history. kept_state history.graph history.kept.phases };
+    ghost view = { λ history. state_of history.graph history.kept.phases };
 
-    ghost invariant = { λ history. AreKept history.graph history.kept
-        × IsValid (kept_state history.graph history.kept.phases) };
+    ghost invariant = { λ history. ArePhasesAndRoots history.graph history.kept
+        × IsValid (state_of history.graph history.kept.phases) };
 }
 
 impl History {

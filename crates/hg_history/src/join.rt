@@ -8,12 +8,12 @@
 ghost use Rattle.std.specs.Prelude.{◌≡◌, ◌↔◌, ◌⊎◌, List, Some, IsTrue, IfOk, OnOk, OnErr, IfErr, IsErrOf, length};
 ghost use Rattle.std.specs.Prelude.{slice_get, [], ◌∷◌};
 ghost use Rattle.hg_phases.specs.declared.phase.Phase.{Phase};
-ghost use Rattle.hg_phases.specs.State.{IsValid};
-ghost use Rattle.hg_phases.specs.Kept.{phases_at, kept_state, phases_before};
+ghost use Rattle.hg_phases.specs.State.{IsValid, state_of};
+ghost use Rattle.hg_phases.specs.Kept.{phases_at, phases_before};
 ghost use Rattle.hg_phases.specs.Least.{IsLeast, part_of};
 ghost use Rattle.hg_phases.specs.Log.{IsLog};
 ghost use Rattle.hg_phases.specs.Order.{Below};
-ghost use Rattle.hg_phases.specs.RootPlaces.{AreKept};
+ghost use Rattle.hg_phases.specs.RootPlaces.{ArePhasesAndRoots};
 ghost use Rattle.hg_join.specs.Absorbed.{join_without_undo};
 ghost use Rattle.hg_history.specs.Answer.{AreHeldUpTo, HasHigher, IsGrowthBeforeFault};
 ghost use Rattle.hg_history.specs.Join.{IsJoinFault, JoinAnswer, IsHeldAsLow};
@@ -36,20 +36,20 @@ pub(crate) fn join_or_undo(
     other: &Graph,
     other_phases: &PhaseMap,
 ) -> Result<Undo, Fault>
-    requires kept { AreKept graph.old kept.old }
-    requires valid { IsValid (kept_state graph.old kept.old.phases) }
+    requires kept { ArePhasesAndRoots graph.old kept.old }
+    requires valid { IsValid (state_of graph.old kept.old.phases) }
     requires other_len { length (phases_at other.now other_phases.now) ≡ length other.now }
-    requires other_valid { IsValid (kept_state other.now other_phases.now) }
-    ensures inside { AreKept graph.new kept.new × IsValid (kept_state graph.new kept.new.phases) }
-    ensures answer { JoinAnswer (kept_state graph.old kept.old.phases) (kept_state other.now other_phases.now)
-        (join_without_undo result) (kept_state graph.new kept.new.phases) }
+    requires other_valid { IsValid (state_of other.now other_phases.now) }
+    ensures inside { ArePhasesAndRoots graph.new kept.new × IsValid (state_of graph.new kept.new.phases) }
+    ensures answer { JoinAnswer (state_of graph.old kept.old.phases) (state_of other.now other_phases.now)
+        (join_without_undo result) (state_of graph.new kept.new.phases) }
     ensures back { IfOk result
-        (λ undo. LeadsBack (kept_state graph.new kept.new.phases) undo (kept_state graph.old kept.old.phases)) }
+        (λ undo. LeadsBack (state_of graph.new kept.new.phases) undo (state_of graph.old kept.old.phases)) }
     ensures growth { OnOk result
-        (IsGrowthBeforeFault (kept_state graph.old kept.old.phases) (part_of (kept_state other.now other_phases.now))
-        ⊎ (kept_state graph.new kept.new.phases ≡ kept_state graph.old kept.old.phases)) }
+        (IsGrowthBeforeFault (state_of graph.old kept.old.phases) (part_of (state_of other.now other_phases.now))
+        ⊎ (state_of graph.new kept.new.phases ≡ state_of graph.old kept.old.phases)) }
     ensures memory { IsErrOf result Fault.NoMemory
-        → IsGrowthBeforeFault (kept_state graph.old kept.old.phases) (part_of (kept_state other.now other_phases.now)) }
+        → IsGrowthBeforeFault (state_of graph.old kept.old.phases) (part_of (state_of other.now other_phases.now)) }
 {
     let before = graph.len();
     let mut log = LoweringLog::new(alloc);
@@ -71,23 +71,23 @@ fn join_and_update(
     other: &Graph,
     other_phases: &PhaseMap,
 ) -> Result<(), Fault>
-    requires kept { AreKept graph.old kept.old }
-    requires valid { IsValid (kept_state graph.old kept.old.phases) }
+    requires kept { ArePhasesAndRoots graph.old kept.old }
+    requires valid { IsValid (state_of graph.old kept.old.phases) }
     requires other_len { length (phases_at other.now other_phases.now) ≡ length other.now }
-    requires other_valid { IsValid (kept_state other.now other_phases.now) }
+    requires other_valid { IsValid (state_of other.now other_phases.now) }
     requires fresh { log.old ≡ [] }
     ensures back { CanTakeBack graph.old (phases_at graph.old kept.old.phases) graph.new kept.new.phases log.new }
-    ensures kept { OnOk result (AreKept graph.new kept.new) }
+    ensures kept { OnOk result (ArePhasesAndRoots graph.new kept.new) }
     ensures roots { OnErr result (kept.new.roots ≡ kept.old.roots) }
-    ensures joined { OnOk result (IsLeast (kept_state graph.old kept.old.phases)
-        (part_of (kept_state other.now other_phases.now) ∷ []) (kept_state graph.new kept.new.phases)) }
+    ensures joined { OnOk result (IsLeast (state_of graph.old kept.old.phases)
+        (part_of (state_of other.now other_phases.now) ∷ []) (state_of graph.new kept.new.phases)) }
     ensures fault { IfErr result
-        (IsJoinFault (kept_state graph.old kept.old.phases) (kept_state other.now other_phases.now)) }
+        (IsJoinFault (state_of graph.old kept.old.phases) (state_of other.now other_phases.now)) }
     ensures growth { OnOk result
-        (IsGrowthBeforeFault (kept_state graph.old kept.old.phases) (part_of (kept_state other.now other_phases.now))
-        ⊎ (kept_state graph.new kept.new.phases ≡ kept_state graph.old kept.old.phases)) }
+        (IsGrowthBeforeFault (state_of graph.old kept.old.phases) (part_of (state_of other.now other_phases.now))
+        ⊎ (state_of graph.new kept.new.phases ≡ state_of graph.old kept.old.phases)) }
     ensures memory { IsErrOf result Fault.NoMemory
-        → IsGrowthBeforeFault (kept_state graph.old kept.old.phases) (part_of (kept_state other.now other_phases.now)) }
+        → IsGrowthBeforeFault (state_of graph.old kept.old.phases) (part_of (state_of other.now other_phases.now)) }
 {
     let before = graph.len();
     match join_logged(graph, &mut kept.phases, log, other, other_phases) {
@@ -109,19 +109,19 @@ fn join_logged(
     other_phases: &PhaseMap,
 ) -> Result<(), Fault>
     requires len { length (phases_at graph.old phases.old) ≡ length graph.old }
-    requires valid { IsValid (kept_state graph.old phases.old) }
+    requires valid { IsValid (state_of graph.old phases.old) }
     requires other_len { length (phases_at other.now other_phases.now) ≡ length other.now }
-    requires other_valid { IsValid (kept_state other.now other_phases.now) }
+    requires other_valid { IsValid (state_of other.now other_phases.now) }
     requires fresh { log.old ≡ [] }
     ensures back { CanTakeBack graph.old (phases_at graph.old phases.old) graph.new phases.new log.new }
-    ensures joined { OnOk result (IsLeast (kept_state graph.old phases.old)
-        (part_of (kept_state other.now other_phases.now) ∷ []) (kept_state graph.new phases.new)) }
+    ensures joined { OnOk result (IsLeast (state_of graph.old phases.old)
+        (part_of (state_of other.now other_phases.now) ∷ []) (state_of graph.new phases.new)) }
     ensures fault { IfErr result
-        (IsJoinFault (kept_state graph.old phases.old) (kept_state other.now other_phases.now)) }
+        (IsJoinFault (state_of graph.old phases.old) (state_of other.now other_phases.now)) }
     ensures memory { IsErrOf result Fault.NoMemory
-        → IsGrowthBeforeFault (kept_state graph.old phases.old) (part_of (kept_state other.now other_phases.now)) }
+        → IsGrowthBeforeFault (state_of graph.old phases.old) (part_of (state_of other.now other_phases.now)) }
     ensures growth { OnOk result (¬ ((log.new ≡ []) × (length graph.old ≡ length graph.new))
-        → IsGrowthBeforeFault (kept_state graph.old phases.old) (part_of (kept_state other.now other_phases.now))) }
+        → IsGrowthBeforeFault (state_of graph.old phases.old) (part_of (state_of other.now other_phases.now))) }
 {
     match add_all(graph, phases, other) {
         Ok(()) => {}
@@ -135,7 +135,7 @@ fn join_logged(
 // Adds the other's changesets that aren't held. After a fault those before the one at fault were added.
 fn add_all(graph: &mut Graph, phases: &mut PhaseMap, other: &Graph) -> Result<(), Fault>
     requires len { length (phases_at graph.old phases.old) ≡ length graph.old }
-    requires valid { IsValid (kept_state graph.old phases.old) }
+    requires valid { IsValid (state_of graph.old phases.old) }
     ensures { AddAllAnswer graph.old (phases_at graph.old phases.old) other.now result graph.new
         (phases_at graph.new phases.new) }
 {
@@ -161,20 +161,20 @@ fn lower_to_each(
     phase: Phase,
 ) -> Result<(), AllocError>
     requires len { length (phases_at graph.now phases.old) ≡ length graph.now }
-    requires valid { IsValid (kept_state graph.now phases.old) }
+    requires valid { IsValid (state_of graph.now phases.old) }
     requires other_len { length (phases_at other.now other_phases.now) ≡ length other.now }
-    requires held { AreHeldUpTo graph.now (part_of (kept_state other.now other_phases.now)).bounds
-        (length (part_of (kept_state other.now other_phases.now)).bounds) }
+    requires held { AreHeldUpTo graph.now (part_of (state_of other.now other_phases.now)).bounds
+        (length (part_of (state_of other.now other_phases.now)).bounds) }
     ensures len { length (phases_at graph.now phases.new) ≡ length (phases_at graph.now phases.old) }
-    ensures valid { OnOk result (IsValid (kept_state graph.now phases.new)) }
-    ensures lowered { OnOk result (IsLoweredTo graph.now (part_of (kept_state other.now other_phases.now)).bounds phase
+    ensures valid { OnOk result (IsValid (state_of graph.now phases.new)) }
+    ensures lowered { OnOk result (IsLoweredTo graph.now (part_of (state_of other.now other_phases.now)).bounds phase
         (phases_at graph.now phases.old) (phases_at graph.now phases.new)) }
     ensures logged { (start : List Phase) → IsLog phase start (phases_at graph.now phases.old) log.old
         → IsLog phase start (phases_at graph.now phases.new) log.new }
     ensures undoes { phases_before graph.now phases.new log.new ≡ phases_before graph.now phases.old log.old }
     ensures memory { OnErr result
-        (HasHigher (kept_state graph.now phases.old) (part_of (kept_state other.now other_phases.now)).bounds) }
-    ensures still { HasHigher (kept_state graph.now phases.old) (part_of (kept_state other.now other_phases.now)).bounds
+        (HasHigher (state_of graph.now phases.old) (part_of (state_of other.now other_phases.now)).bounds) }
+    ensures still { HasHigher (state_of graph.now phases.old) (part_of (state_of other.now other_phases.now)).bounds
         ⊎ ((phases_at graph.now phases.new ≡ phases_at graph.now phases.old) × (log.new ≡ log.old)) }
 {
     for place in 0..other.len() {
@@ -208,7 +208,7 @@ pub(crate) fn is_below(
 ) -> bool
     requires len { length (phases_at graph.now phases.now) ≡ length graph.now }
     requires other_len { length (phases_at other.now other_phases.now) ≡ length other.now }
-    ensures { IsTrue result ↔ Below (kept_state graph.now phases.now) (kept_state other.now other_phases.now) }
+    ensures { IsTrue result ↔ Below (state_of graph.now phases.now) (state_of other.now other_phases.now) }
 {
     // Who holds more isn't below: that takes no look at what is held.
     if graph.len() > other.len() {
@@ -227,7 +227,7 @@ pub(crate) fn is_below(
 // Whether the changeset is held, with this phase or a lower one.
 fn holds_as_low(graph: &Graph, phases: &PhaseMap, changeset: &Changeset, phase: Phase) -> bool
     requires { length (phases_at graph.now phases.now) ≡ length graph.now }
-    ensures { IsTrue result ↔ IsHeldAsLow (kept_state graph.now phases.now) changeset.now phase }
+    ensures { IsTrue result ↔ IsHeldAsLow (state_of graph.now phases.now) changeset.now phase }
 {
     match graph.place(changeset.node()) {
         Some(place) => is_at(graph, place, changeset) && phases.at(graph, place) <= phase,

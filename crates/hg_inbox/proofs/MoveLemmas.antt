@@ -1,5 +1,5 @@
 -- Each move keeps the rule of the inbox.
-use Rattle.std.proofs.Common.{◌≡◌, ◌≢◌, ℕ, zero, suc, ◌+◌, ◌-◌, ◌^◌, ◌<◌, ◌≤◌, ◌==◌, cond, List, [], ◌∷◌, ◌++◌, length}
+use Rattle.std.proofs.Common.{◌≡◌, ◌≢◌, ℕ, zero, suc, ◌+◌, ◌-◌, ◌<◌, ◌≤◌, ◌==◌, cond, List, [], ◌∷◌, ◌++◌, length}
 use Rattle.std.proofs.Common.{set, Some, slice_get, get_or, All, sum_by, refl, ap, sym, ◌∙◌, subst, ⊎_elim, arith}
 use Rattle.std.proofs.Common.{append_assoc, length-append}
 use Rattle.std.proofs.lemmas.List.{append-nil}
@@ -14,6 +14,7 @@ use Rattle.crossbeam_queue.proofs.Lists.{at_set, at_snoc}
 use Rattle.hg_changeset.proofs.ListLemmas.{slice_get-append, slice_get-append_seam}
 use Rattle.hg_inbox.specs.declared.rule.Log.{Log}
 use Rattle.hg_inbox.specs.declared.rule.Numbered.{Numbered}
+use Rattle.hg_inbox.specs.Limits.{all_parts}
 use Rattle.hg_inbox.specs.Rule.{log, numbered, times, once_below, StandsIn, Ordered, Put, Taken, Agrees, IsWhole}
 
 -- a view that stands at a place, in the words of lists
@@ -204,7 +205,7 @@ only f (x ∷ xs) (suc k) v at all zeros =
     let rest = only f xs k v at (omega arith) (λ j u there. zeros (suc j) u there) in omega (arith, sum_by-cons f x xs)
 
 -- what the owner of every part knows of what was put and taken
-pub wholes : (seat : ℕ) (v : Log) → v.parts ≡ 2 ^ 62 + 1 → Learns Ordered seat v (IsWhole v)
+pub wholes : (seat : ℕ) (v : Log) → v.parts ≡ all_parts → Learns Ordered seat v (IsWhole v)
 wholes seat v all items views h at =
     let r = h.1 in
     let sole : sum_by (λ u. u.parts) views ≡ v.parts = r.parts ∙ sym all in (
@@ -227,7 +228,7 @@ wholes seat v all items views h at =
 
 -- the owner of every part takes under the next number
 pub takes_next : (seat : ℕ) (v : Log)
-    → v.parts ≡ 2 ^ 62 + 1 → Pops Ordered seat v
+    → v.parts ≡ all_parts → Pops Ordered seat v
     (λ m w. w ≡ log v.parts v.puts (v.takes ++ numbered (length v.takes) m ∷ []))
 unfolding takes
 takes_next seat v all m items views h at =
@@ -277,5 +278,5 @@ merges seat v other u items views h at two at' =
     )
 
 -- no pass has more parts than there are
-pub parts_most : (seat : ℕ) (v : Log) → Learns Ordered seat v (λ items. v.parts ≤ 2 ^ 62 + 1)
+pub parts_most : (seat : ℕ) (v : Log) → Learns Ordered seat v (λ items. v.parts ≤ all_parts)
 parts_most seat v items views h at = let p = h.1.parts in omega (arith, part_within views seat v at)

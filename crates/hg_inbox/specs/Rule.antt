@@ -1,9 +1,10 @@
 -- The rule of the inbox: its puts are numbered from 0, and so are its takes.
-use Rattle.std.specs.Prelude.{◌≡◌, ℕ, ◌+◌, ◌^◌, ◌<◌, ◌==◌, nat_lt, cond, List, [], ◌∷◌, ◌++◌, length, Some, slice_get}
+use Rattle.std.specs.Prelude.{◌≡◌, ℕ, ◌+◌, ◌<◌, ◌==◌, nat_lt, cond, List, [], ◌∷◌, ◌++◌, length, Some, slice_get}
 use Rattle.std.specs.Prelude.{All, AllPairs, sum_by, count_by}
 use mathlib.Core.Option.{some}
 use lib.ListN.{get_elem?}
 use Rattle.hg_inbox.specs.declared.rule.Log.{Log}
+use Rattle.hg_inbox.specs.Limits.{all_parts}
 use Rattle.hg_inbox.specs.declared.rule.Numbered.{Numbered}
 
 abbrev pub log : ℕ → List Numbered → List Numbered → Log
@@ -26,7 +27,7 @@ StandsIn q ps = All (λ p. slice_get q p.number ≡ Some p.message) ps
 
 -- q was put in all, and t taken. Each number of q was put by one seat, and each of t taken by one
 pub record IsOrdered (items : List (List ℕ)) (views : List Log) (t : List (List ℕ)) : Type 0 where
-  pub parts : sum_by (λ v. v.parts) views ≡ 2 ^ 62 + 1
+  pub parts : sum_by (λ v. v.parts) views ≡ all_parts
   pub puts_once : (k : ℕ) → sum_by (λ v. times k v.puts) views ≡ once_below k (length (t ++ items))
   pub takes_once : (k : ℕ) → sum_by (λ v. times k v.takes) views ≡ once_below k (length t)
   pub puts_all : sum_by (λ v. length v.puts) views ≡ length (t ++ items)

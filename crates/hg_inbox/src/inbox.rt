@@ -1,8 +1,9 @@
 //! A bounded inbox that threads share, and the seats of its callers.
-ghost use Rattle.std.specs.Prelude.{◌≡◌, ◌↔◌, ℕ, ◌+◌, ◌-◌, ◌^◌, ◌<◌, ◌≤◌, ◌⊎◌, List, [], ◌∷◌, ◌++◌, All, IfOk, OnOk};
+ghost use Rattle.std.specs.Prelude.{◌≡◌, ◌↔◌, ℕ, ◌+◌, ◌-◌, ◌<◌, ◌≤◌, ◌⊎◌, List, [], ◌∷◌, ◌++◌, All, IfOk, OnOk};
 ghost use Rattle.std.specs.Prelude.{IfErr, IfSome, IsErrOf, IsNone, MatchResult, MatchOption, length, map};
 ghost use Rattle.crossbeam_queue.specs.Fifo.{Held};
 ghost use Rattle.crossbeam_queue.specs.Passes.{view, IsPassOf, IsSamePass};
+ghost use Rattle.hg_inbox.specs.Limits.{all_parts, seat_limit};
 ghost use Rattle.hg_inbox.specs.Rule.{log, Agrees};
 ghost use Rattle.hg_inbox.specs.Views.{seat_log, inbox_state, AddsPut, AddsTake, IsRest, EachAscends, all_puts};
 ghost use Rattle.hg_inbox.specs.Views.{all_takes};
@@ -15,8 +16,8 @@ use std::alloc::Global;
 use std::marker::Model;
 use std::sync::Wait;
 
-/// How many seats one inbox gives at most.
-const SEATS: u64 = 1 << 62;
+/// The most seats that one inbox gives.
+pub const SEAT_LIMIT: u64 = 1 << 62;
 
 /// A caller's seat at an inbox, by which it puts and takes. Contracts see which inbox it is of, and what was put and
 /// taken by it, each message under its number.
@@ -58,15 +59,16 @@ impl Model for Inbox {
 
     ghost Value = { InboxState };
 
-    ghost use Rattle.std.specs.Prelude.{◌≡◌, ◌+◌, ◌-◌, ◌^◌, ◌≤◌, []};
+    ghost use Rattle.std.specs.Prelude.{◌≡◌, ◌-◌, ◌≤◌, []};
+    ghost use Rattle.hg_inbox.specs.Limits.{all_parts, seat_limit};
     ghost use Rattle.crossbeam_queue.specs.Passes.{view as known, IsPassOf, ruled_capacity};
     ghost use Rattle.hg_inbox.specs.Rule.{log};
     ghost use Rattle.hg_inbox.specs.Views.{inbox_state};
 
     ghost view = { λ i. inbox_state i.queue.table.shared.table_id (ruled_capacity i.queue) i.seats };
 
-    ghost invariant = { λ i. IsPassOf i.queue i.origin × (known i.origin ≡ log (2 ^ 62 + 1 - i.seats) [] [])
-        × (i.seats ≤ 2 ^ 62) };
+    ghost invariant = { λ i. IsPassOf i.queue i.origin × (known i.origin ≡ log (all_parts - i.seats) [] [])
+        × (i.seats ≤ seat_limit) };
 }
 
 /// The inbox was not closed. It comes back as it was, with the seats.
@@ -106,15 +108,15 @@ impl Inbox {
 
     /// A seat for one caller, made before the inbox is shared.
     ///
-    /// Refuses [`InboxRefusal::NoSeat`] where 2^62 seats were made.
+    /// Refuses [`InboxRefusal::NoSeat`] where [`SEAT_LIMIT`] seats were made.
     pub fn seat(&mut self) -> Result<Seat, InboxRefusal>
         ensures made { IfOk result
             (λ seat. (seat ≡ seat_log self.old.name [] [])
             × (self.new ≡ inbox_state self.old.name self.old.capacity (self.old.seats + 1))) }
         ensures refused { IfErr result (λ e. (e ≡ NoSeat) × (self.new ≡ self.old)) }
-        ensures none_left { IsErrOf result NoSeat ↔ (self.old.seats ≡ 2 ^ 62) }
+        ensures none_left { IsErrOf result NoSeat ↔ (self.old.seats ≡ seat_limit) }
     {
-        if self.seats >= SEATS {
+        if self.seats >= SEAT_LIMIT {
             return Err(InboxRefusal::NoSeat);
         }
         let pass = steps::cut(&self.queue, &mut self.origin);
@@ -202,7 +204,7 @@ fn gather(queue: &Queue, origin: &mut Known, seats: Vec<Seat>)
     ensures all { view origin.new ≡ log ((view origin.old).parts + length seats.items)
         ((view origin.old).puts ++ all_puts seats.items) ((view origin.old).takes ++ all_takes seats.items) }
     ensures numbers { EachAscends seats.items }
-    ensures parts { (view origin.new).parts ≤ 2 ^ 62 + 1 }
+    ensures parts { (view origin.new).parts ≤ all_parts }
 {
     for seat in seats {
         let Seat { pass } = seat;

@@ -45,5 +45,5 @@ mod refusal;
 mod rule;
 mod steps;
 
-pub use inbox::{Inbox, Seat, Unclosed};
+pub use inbox::{Inbox, SEAT_LIMIT, Seat, Unclosed};
 pub use refusal::{Full, InboxRefusal};

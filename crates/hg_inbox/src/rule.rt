@@ -35,12 +35,13 @@ pub struct Log {
 pub struct InOrder;
 
 impl Protocol<Message, Log> for InOrder {
-    ghost use Rattle.std.specs.Prelude.{[], ◌+◌, ◌^◌};
+    ghost use Rattle.std.specs.Prelude.{[]};
+    ghost use Rattle.hg_inbox.specs.Limits.{all_parts};
     ghost use Rattle.hg_inbox.specs.Rule.{log, Ordered};
 
     ghost holds = { Ordered };
 
-    ghost first = { log (2 ^ 62 + 1) [] [] };
+    ghost first = { log all_parts [] [] };
 }
 
 /// Seats are made and given back.
@@ -116,7 +117,8 @@ impl Lesson<Message, Log> for Empties {
 pub struct Parts;
 
 impl Lesson<Message, Log> for Parts {
-    ghost use Rattle.std.specs.Prelude.{◌≤◌, ◌+◌, ◌^◌};
+    ghost use Rattle.std.specs.Prelude.{◌≤◌};
+    ghost use Rattle.hg_inbox.specs.Limits.{all_parts};
 
-    ghost fact = { λ v items. v.parts ≤ 2 ^ 62 + 1 };
+    ghost fact = { λ v items. v.parts ≤ all_parts };
 }

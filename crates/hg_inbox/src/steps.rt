@@ -1,9 +1,10 @@
 //! The steps at the queue of an inbox, each of which keeps its rule: a put and a take, a part that is cut off and comes
 //! back, and what is left, which is taken out by the pass that has every part.
-ghost use Rattle.std.specs.Prelude.{◌≡◌, ℕ, List, ◌+◌, ◌-◌, ◌^◌, ◌<◌, ◌≤◌, [], ◌∷◌, ◌++◌, All, MatchResult};
+ghost use Rattle.std.specs.Prelude.{◌≡◌, ℕ, List, ◌+◌, ◌-◌, ◌<◌, ◌≤◌, [], ◌∷◌, ◌++◌, All, MatchResult};
 ghost use Rattle.std.specs.Prelude.{MatchOption, length, map, vec_capacity};
 ghost use Rattle.crossbeam_queue.specs.Fifo.{Held};
 ghost use Rattle.crossbeam_queue.specs.Passes.{view, IsPassOf, IsSamePass, ruled_capacity};
+ghost use Rattle.hg_inbox.specs.Limits.{all_parts};
 ghost use Rattle.hg_inbox.specs.Rule.{log, numbered, numbered_from, Put, Taken, Agrees, IsWhole};
 
 use crate::rule::{Empties, InOrder, Log, Message, Parts, Puts, Seats, Takes};
@@ -68,14 +69,14 @@ pub(crate) fn give_back(queue: &Queue, pass: &mut Known, other: Known)
 pub(crate) fn count_parts(queue: &Queue, pass: &mut Known)
     requires { IsPassOf queue.now pass.old }
     ensures same { IsSamePass pass.old pass.new × (view pass.new ≡ view pass.old) }
-    ensures parts { (view pass.old).parts ≤ 2 ^ 62 + 1 }
+    ensures parts { (view pass.old).parts ≤ all_parts }
 {
     queue.learn_as::<Parts>(pass);
 }
 
 /// How many messages are left, by the pass that has every part.
 pub(crate) fn count<R: Wait>(rt: &R, queue: &Queue, pass: &mut Known) -> usize
-    requires { IsPassOf queue.now pass.old × ((view pass.old).parts ≡ 2 ^ 62 + 1) }
+    requires { IsPassOf queue.now pass.old × ((view pass.old).parts ≡ all_parts) }
     ensures same { IsSamePass pass.old pass.new × (view pass.new ≡ view pass.old) }
     ensures count { (result ≤ ruled_capacity queue.now)
         × (length (view pass.old).puts ≡ length (view pass.old).takes + result) }
@@ -85,7 +86,7 @@ pub(crate) fn count<R: Wait>(rt: &R, queue: &Queue, pass: &mut Known) -> usize
 
 /// Takes a message that is left, by the pass that has every part.
 pub(crate) fn take_left<R: Wait>(rt: &R, queue: &Queue, pass: &mut Known) -> Message
-    requires { IsPassOf queue.now pass.old × ((view pass.old).parts ≡ 2 ^ 62 + 1)
+    requires { IsPassOf queue.now pass.old × ((view pass.old).parts ≡ all_parts)
         × (length (view pass.old).takes < length (view pass.old).puts) }
     ensures same { IsSamePass pass.old pass.new }
     ensures next { view pass.new ≡ log (view pass.old).parts (view pass.old).puts
@@ -99,7 +100,7 @@ pub(crate) fn take_left<R: Wait>(rt: &R, queue: &Queue, pass: &mut Known) -> Mes
 
 /// What the whole is, by the pass that has every part.
 pub(crate) fn learn(queue: &Queue, pass: &mut Known)
-    requires { IsPassOf queue.now pass.old × ((view pass.old).parts ≡ 2 ^ 62 + 1) }
+    requires { IsPassOf queue.now pass.old × ((view pass.old).parts ≡ all_parts) }
     ensures same { IsSamePass pass.old pass.new × (view pass.new ≡ view pass.old) }
     ensures whole { (items : List (List ℕ)) × IsWhole (view pass.old) items }
 {
@@ -113,7 +114,7 @@ pub(crate) fn take_rest<R: Wait>(
     pass: &mut Known,
     mut rest: Vec<Vec<u8>>,
 ) -> Vec<Vec<u8>>
-    requires pass { IsPassOf queue.now pass.old × ((view pass.old).parts ≡ 2 ^ 62 + 1) }
+    requires pass { IsPassOf queue.now pass.old × ((view pass.old).parts ≡ all_parts) }
     requires room { (rest.items ≡ []) × (ruled_capacity queue.now ≤ vec_capacity rest) }
     ensures bounded { length result.items ≤ ruled_capacity queue.now }
     ensures rest { (view pass.new ≡ log (view pass.old).parts (view pass.old).puts

@@ -6,7 +6,7 @@ use Rattle.std.proofs.lemmas.Bool.Decides.{nat_tests}
 use mathlib.Core.List.{IsPrefix}
 use prog.Atomic.{either}
 use Rattle.logbook.specs.Pages.{Cell, cell, Nib, no_nib, adds, gives, may_write, step, Moves, Goes}
-use Rattle.hg_journal.specs.Rules.{Notes, IsKept, AreHome, EndsWith, Begins, Grows, Adds}
+use Rattle.hg_journal.specs.Rules.{Notes, IsJournal, AreHome, EndsWith, Begins, Grows, Adds}
 use Rattle.hg_journal.proofs.Prefixes.{prefix_trans, prefix_whole, prefix_length}
 use Rattle.hg_journal.proofs.CellLemmas.{is_home, stay_longer, stay_set, set_is_home, are_home_still}
 use Rattle.hg_journal.proofs.CellLemmas.{home_before_last, home_snoc}
@@ -28,7 +28,7 @@ either_zero (suc m) = rw (more_than_none m) refl
 module _ {E : Type 0} where
   -- whoever has the pen of the cell that the last note names has seen the whole
   pub whole_seen : (whole log : Notes E) (cs : List Cell) (p : Nib) → EndsWith whole p.key → IsPrefix whole log →
-      IsKept cs log → is_home cs p.key ≡ false → whole ≡ log
+      IsJournal cs log → is_home cs p.key ≡ false → whole ≡ log
   whole_seen whole log cs p (before, entry, ends) ([], e) kept away = sym (append-nil whole) ∙ e
   whole_seen whole log cs p (before, entry, ends) (next ∷ rest, e) kept away =
       let all : before ++ (entry, p.key) ∷ next ∷ rest ≡ log =
@@ -38,8 +38,8 @@ module _ {E : Type 0} where
 
   -- a cell beside the first comes home, and a note stands last
   pub kept_adding : (log : Notes E) (note : Option E × ℕ) (n : ℕ) (cs : List Cell) (p : Nib) → EndsWith log p.key →
-      IsKept cs log → p.key < length cs → is_home cs p.key ≡ false → length log ≡ n →
-      IsKept (set (set cs 0 (either ((cell cs 0).0 == n) (n + 1) (cell cs 0).0, true)) p.key (p.value, true))
+      IsJournal cs log → p.key < length cs → is_home cs p.key ≡ false → length log ≡ n →
+      IsJournal (set (set cs 0 (either ((cell cs 0).0 == n) (n + 1) (cell cs 0).0, true)) p.key (p.value, true))
       (log ++ note ∷ [])
   kept_adding log note n cs p (before, entry, ends) kept there away len =
       let found : (cell cs 0).0 ≡ n = ap (λ (c : Cell). c.0) kept.head ∙ len in
@@ -65,7 +65,7 @@ module _ {E : Type 0} where
 
   pub adds_moves : (v whole : Notes E) (note : Option E × ℕ) (n : ℕ) (p : Nib) → IsPrefix whole v →
       EndsWith whole p.key → p.right ≡ may_write → length whole ≡ n →
-      Moves IsKept shown moved 0 (v, (p, None)) (λ m. either (m == n) (n + 1) m)
+      Moves IsJournal shown moved 0 (v, (p, None)) (λ m. either (m == n) (n + 1) m)
       (Adds (step 0 n (n + 1) note) (v, (p, None)))
   adds_moves v whole note n p begins ends right len cs log kept pre away =
       let a = away right in
@@ -73,7 +73,7 @@ module _ {E : Type 0} where
       let short = prefix_length whole v begins in
       let all : v ≡ log = prefix_whole v log pre (omega (arith, short, ap length same)) in
       let long : length log ≡ n = sym (ap length same) ∙ len in
-      let goes : Goes IsKept shown moved 0 (v, (p, None)) (λ m. either (m == n) (n + 1) m)
+      let goes : Goes IsJournal shown moved 0 (v, (p, None)) (λ m. either (m == n) (n + 1) m)
       (Adds (step 0 n (n + 1) note) (v, (p, None))) cs log = (
         gives,
         note ∷ [],
@@ -86,8 +86,8 @@ module _ {E : Type 0} where
       (kept.some, ap (λ (c : Cell). c.1) kept.head, goes)
 
   -- there is one cell more
-  pub kept_growing : (log : Notes E) (m : ℕ) (cs : List Cell) → IsKept cs log → m ≡ length log →
-      IsKept (set cs 0 (m, true) ++ (0, false) ∷ []) (log ++ [])
+  pub kept_growing : (log : Notes E) (m : ℕ) (cs : List Cell) → IsJournal cs log → m ≡ length log →
+      IsJournal (set cs 0 (m, true) ++ (0, false) ∷ []) (log ++ [])
   kept_growing log m [] kept is = absurd (omega (arith, kept.some))
   kept_growing log m (c ∷ cs) kept is =
       let others = set (c ∷ cs) 0 (m, true) in
@@ -101,10 +101,10 @@ module _ {E : Type 0} where
       }
 
   pub grows_moves : (v : Notes E) (ask : Option E × ℕ) →
-      Moves IsKept shown moved 0 (v, (no_nib, None)) (λ m. either (m == 0) 0 m)
+      Moves IsJournal shown moved 0 (v, (no_nib, None)) (λ m. either (m == 0) 0 m)
       (Grows (step 0 0 0 ask) (v, (no_nib, None)))
   grows_moves v ask cs log kept pre away =
-      let goes : Goes IsKept shown moved 0 (v, (no_nib, None)) (λ m. either (m == 0) 0 m)
+      let goes : Goes IsJournal shown moved 0 (v, (no_nib, None)) (λ m. either (m == 0) 0 m)
       (Grows (step 0 0 0 ask) (v, (no_nib, None))) cs log = (
         adds,
         [],
@@ -117,8 +117,8 @@ module _ {E : Type 0} where
       ) in
       (kept.some, ap (λ (c : Cell). c.1) kept.head, goes)
 
-  begins_goes : (log : Notes E) (ask : Option E × ℕ) (cs : List Cell) → IsKept cs log →
-      Goes IsKept shown moved 0 ([], (no_nib, None)) (λ m. either (m == 0) 1 m)
+  begins_goes : (log : Notes E) (ask : Option E × ℕ) (cs : List Cell) → IsJournal cs log →
+      Goes IsJournal shown moved 0 ([], (no_nib, None)) (λ m. either (m == 0) 1 m)
       (Begins (step 0 0 1 ask) ([], (no_nib, None))) cs log
   begins_goes [] ask [] kept = absurd (omega (arith, kept.some))
   begins_goes [] ask (c ∷ cs) kept =
@@ -146,6 +146,6 @@ module _ {E : Type 0} where
       )
 
   pub begins_moves : (ask : Option E × ℕ) →
-      Moves IsKept shown moved 0 ([], (no_nib, None)) (λ m. either (m == 0) 1 m)
+      Moves IsJournal shown moved 0 ([], (no_nib, None)) (λ m. either (m == 0) 1 m)
       (Begins (step 0 0 1 ask) ([], (no_nib, None)))
   begins_moves ask cs log kept pre away = (kept.some, ap (λ (c : Cell). c.1) kept.head, begins_goes log ask cs kept)

@@ -13,7 +13,7 @@ AreHome cells (note ∷ []) = Unit {0}
 AreHome cells (note ∷ next ∷ rest) = ((cell cells note.1).1 ≡ true) × AreHome cells (next ∷ rest)
 
 -- the first word is the number of notes, and of each note but the last the cell is at home
-pub record IsKept {E : Type 0} (cells : List Cell) (notes : Notes E) : Type 0 where
+pub record IsJournal {E : Type 0} (cells : List Cell) (notes : Notes E) : Type 0 where
   pub some : 0 < length cells
   pub head : cell cells 0 ≡ (length notes, true)
   pub home : AreHome cells notes

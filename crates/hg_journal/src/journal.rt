@@ -1,7 +1,8 @@
 //! The journal, which one alone can add to.
-ghost use Rattle.std.specs.Prelude.{◌≡◌, ◌<◌, ◌^◌, ◌++◌, ◌∷◌, [], length};
+ghost use Rattle.std.specs.Prelude.{◌≡◌, ◌<◌, ◌++◌, ◌∷◌, [], length};
 ghost use mathlib.Core.List.{IsPrefix};
 ghost use Rattle.logbook.specs.Pages.{Named, may_write};
+ghost use Rattle.hg_journal.specs.Limits.{entry_limit};
 ghost use Rattle.hg_journal.specs.Rules.{head_of};
 
 use crate::front::Front;
@@ -117,7 +118,7 @@ impl<K: JournalName, E> Journal<K, E> {
 
     /// Adds an entry, and gives it back. What was seen of the journal begins it as it was before.
     pub fn extend(&mut self, one: &Front<K, E>, other: &Front<K, E>, entry: E) -> E
-        requires room { length self.old < 2 ^ 62 }
+        requires room { length self.old < entry_limit }
         ensures new { self.new ≡ self.old ++ entry ∷ [] }
         ensures one { IsPrefix one.now self.old }
         ensures other { IsPrefix other.now self.old }

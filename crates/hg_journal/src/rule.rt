@@ -14,9 +14,9 @@ pub struct Counted;
 impl<E> Rule<Note<E>, u64> for Counted {
     ghost use Rattle.std.specs.Prelude.{[]};
     ghost use base.Fml.{ftrue};
-    ghost use Rattle.hg_journal.specs.Rules.{IsKept};
+    ghost use Rattle.hg_journal.specs.Rules.{IsJournal};
 
-    ghost holds = { λ cells notes. IsKept cells notes };
+    ghost holds = { λ cells notes. IsJournal cells notes };
 
     ghost first = { [] };
 

@@ -14,7 +14,7 @@ use Rattle.hg_marker.specs.declared.error.MarkerFault.{MarkerFault}
 use Rattle.hg_marker.specs.declared.error.MarkerFault.TheVariants.{Truncated, NullSuccessor, BadMetadata}
 use Rattle.hg_marker.specs.Fields.{Fields}
 use Rattle.hg_marker.specs.Metadata.{metadata_at, has_colon, pieces, texts}
-use Rattle.hg_marker.specs.Grammar.{metadata_limit}
+use Rattle.hg_marker.specs.Limits.{metadata_limit}
 use Rattle.hg_marker.specs.Reading.{Reader, Gives, IsRead, and_then, ◌>>=◌, says, wants, yields, field, number, byte}
 use Rattle.hg_marker.specs.Reading.{node, nodes, ids_in}
 use Rattle.hg_marker.specs.Faults.{marker_at, count_at, len_at, announced, successor_at, metadata_text_at, IsWhole}

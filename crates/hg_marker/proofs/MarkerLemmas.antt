@@ -12,7 +12,8 @@ use Rattle.hg_marker.specs.declared.error.MarkerFault.TheVariants.{Truncated, Nu
 use Rattle.hg_marker.specs.Fields.{Fields}
 use Rattle.hg_marker.specs.Metadata.{IsMetadata, metadata_at, has_colon, pieces, texts, written}
 use Rattle.hg_marker.specs.Texts.{Texts}
-use Rattle.hg_marker.specs.Grammar.{IsSpelling, IsMarker, layout, spelling, ids, metadata_limit}
+use Rattle.hg_marker.specs.Grammar.{IsSpelling, IsMarker, layout, spelling, ids}
+use Rattle.hg_marker.specs.Limits.{metadata_limit}
 use Rattle.hg_marker.specs.Faults.{marker_at, with_length, marker_and_length}
 use Rattle.hg_marker.specs.Reading.{byte, number, node, nodes, field}
 use Rattle.hg_marker.proofs.ReadLemmas.{read_is_clean, written_no_longer}

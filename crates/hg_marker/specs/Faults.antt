@@ -11,7 +11,7 @@ use Rattle.hg_marker.specs.declared.error.ReadError.{ReadError}
 use Rattle.hg_marker.specs.declared.error.ReadError.TheVariants.{NoMemory, Fault}
 use Rattle.hg_marker.specs.Fields.{Fields}
 use Rattle.hg_marker.specs.Metadata.{metadata_at, pieces, has_colon}
-use Rattle.hg_marker.specs.Grammar.{metadata_limit}
+use Rattle.hg_marker.specs.Limits.{metadata_limit}
 use Rattle.hg_marker.specs.Reading.{Reader, ◌>>=◌, says, wants, yields, field, number, byte, node, nodes}
 
 -- ---- field by field

@@ -7,10 +7,7 @@ use Rattle.hg_changeset.specs.declared.node.Node.{Node}
 use Rattle.hg_changeset.specs.Node.{IsNode, null_node, node_eq}
 use Rattle.hg_marker.specs.Fields.{Fields}
 use Rattle.hg_marker.specs.Metadata.{IsMetadata, IsClean, written}
-
--- the most bytes of metadata
-abbrev pub metadata_limit : ℕ
-metadata_limit = 1048576
+use Rattle.hg_marker.specs.Limits.{metadata_limit}
 
 -- the ids, one after the other
 abbrev pub ids : List Node → List ℕ

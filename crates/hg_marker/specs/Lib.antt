@@ -14,3 +14,4 @@ pub mod ReadErrors
 pub mod Operation
 pub mod Source
 pub mod Survey
+pub mod Limits

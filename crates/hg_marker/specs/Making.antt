@@ -9,7 +9,7 @@ use Rattle.hg_marker.specs.declared.error.MarkerError.TheVariants.{TooManySucces
 use Rattle.hg_marker.specs.Fields.{Fields}
 use Rattle.hg_marker.specs.Texts.{Texts}
 use Rattle.hg_marker.specs.Metadata.{is_nul, is_colon, written}
-use Rattle.hg_marker.specs.Grammar.{metadata_limit}
+use Rattle.hg_marker.specs.Limits.{metadata_limit, successor_limit}
 
 -- a byte that no key holds
 abbrev pub ends_key : ℕ → Bool
@@ -34,6 +34,6 @@ marker_of m =
     else if list_any (node_eq null_node) m.successors then Err NullSuccessor
     else if has_bad_key (entries m.metadata) then Err BadKey
     else if has_bad_value (entries m.metadata) then Err BadValue
-    else if nat_lt 255 (length m.successors) then Err TooManySuccessors
+    else if nat_lt successor_limit (length m.successors) then Err TooManySuccessors
     else if nat_lt metadata_limit (length (written m.metadata)) then Err MetaTooLong
     else Ok m

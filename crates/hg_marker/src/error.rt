@@ -20,7 +20,7 @@ pub enum MarkerError {
     BadKey,
     /// A value of the metadata holds a NUL.
     BadValue,
-    /// There are more than 255 successors.
+    /// There are more than [`SUCCESSOR_LIMIT`](crate::SUCCESSOR_LIMIT) successors.
     TooManySuccessors,
     /// The metadata takes more than [`METADATA_LIMIT`](crate::METADATA_LIMIT) bytes as written.
     MetaTooLong,

@@ -41,7 +41,7 @@ mod text_map;
 pub use error::{MarkerError, MarkerFault, ReadError};
 pub use format::{decode, encode, read_marker, skip_marker, spelling_laws, write_marker};
 pub use hg_changeset::Node;
-pub use marker::{METADATA_LIMIT, Marker};
+pub use marker::{METADATA_LIMIT, Marker, SUCCESSOR_LIMIT};
 pub use metadata::Metadata;
 pub use note::Note;
 pub use parents::Parents;

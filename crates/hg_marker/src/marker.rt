@@ -25,6 +25,9 @@ use smallvec::SmallVec;
 use std::alloc::{AllocError, Global};
 use std::marker::Model;
 
+/// The most successors that a marker may name: their number has one byte.
+pub const SUCCESSOR_LIMIT: usize = 255;
+
 /// The most bytes that the metadata of a marker may take.
 pub const METADATA_LIMIT: u32 = 1_048_576;
 
@@ -177,7 +180,7 @@ impl Marker {
         if source.has_bad_value() {
             return Err(ReadError::Fault(MarkerError::BadValue));
         }
-        if successors.len() > 255 {
+        if successors.len() > SUCCESSOR_LIMIT {
             return Err(ReadError::Fault(MarkerError::TooManySuccessors));
         }
         let room = source.len_bound();

@@ -19,12 +19,12 @@ use Rattle.hg_obsstore.specs.declared.places.Places.{Places}
 use Rattle.hg_obsstore.specs.declared.digests.Digests.{Digests}
 use Rattle.hg_obsstore.specs.Index.{stands_last, with_last, without_last, places_of, AddsPlace, SamePlaces}
 use Rattle.hg_obsstore.specs.Indexes.{AreIndexed, TakeMarker}
-use Rattle.hg_obsstore.specs.Markers.{AreApart, predecessors}
+use Rattle.hg_obsstore.specs.Markers.{AllDistinct, predecessors}
 use Rattle.hg_obsstore.specs.declared.index.Index.{Index}
 use Rattle.hg_obsstore.specs.declared.index.Role.TheVariants.{Predecessor}
 use Rattle.hg_marker.specs.Fields.{Fields}
 use Rattle.hg_marker.specs.Same.{same_fields, fields_decides}
-use Rattle.hg_obsstore.specs.Digests.{KeepsOtherDigests, few, found_places, nodes_bytes, under, AreDigested}
+use Rattle.hg_obsstore.specs.Digests.{KeepsOtherDigests, scanned, found_places, nodes_bytes, under, AreDigested}
 use Rattle.hg_obsstore.specs.Digests.{IsUnderDigest, digest_of}
 use Rattle.hg_obsstore.specs.Digests.{is_it, stands_at, stands_among}
 use Rattle.hg_node_set.proofs.KeyLemmas.{not_at}
@@ -101,23 +101,26 @@ module _ (old new : Digests) (digest : Node) (w : Option Places) (at : get_by (n
       (λ (apart : n ≢ digest). subst (λ o. Contains (found_places o) i) (sym (off n (not_at digest n apart))) there)
       (node_cases n digest)
 
--- what stands beyond the first few, with a place more
-pub beyond_more : (xs : List ℕ) (k i : ℕ) → Contains (drop few xs) i → Contains (drop few (xs ++ k ∷ [])) i
+-- what stands beyond the scanned ones, with a place more
+pub beyond_more : (xs : List ℕ) (k i : ℕ) → Contains (drop scanned xs) i → Contains (drop scanned (xs ++ k ∷ [])) i
 beyond_more xs k i h = ⊎_elim
-    (λ (short : length xs < few). let long = length-drop few xs in absurd (omega (arith, h.1, long, short)))
-    (λ (many : few ≤ length xs). subst (λ ys. Contains ys i) (sym (drop-append-le few xs (k ∷ []) many))
-    (Contains-append_left (drop few xs) (k ∷ []) i h)) (cases_lt (length xs) few)
+    (λ (short : length xs < scanned). let long = length-drop scanned xs in absurd (omega (arith, h.1, long, short)))
+    (λ (many : scanned ≤ length xs). subst (λ ys. Contains ys i) (sym (drop-append-le scanned xs (k ∷ []) many))
+    (Contains-append_left (drop scanned xs) (k ∷ []) i h)) (cases_lt (length xs) scanned)
 
-pub beyond_before : (xs : List ℕ) (k i : ℕ) → i ≢ k → Contains (drop few (xs ++ k ∷ [])) i → Contains (drop few xs) i
+pub beyond_before : (xs : List ℕ) (k i : ℕ) → i ≢ k → Contains (drop scanned (xs ++ k ∷ [])) i
+    → Contains (drop scanned xs) i
 beyond_before xs k i other h = ⊎_elim
-    (λ (short : length xs < few). let long = length-drop few (xs ++ k ∷ []) in
+    (λ (short : length xs < scanned). let long = length-drop scanned (xs ++ k ∷ []) in
     absurd (omega (arith, h.1, long, short, length-append xs (k ∷ []))))
-    (λ (many : few ≤ length xs). ⊎_elim (λ (c : Contains (drop few xs) i). c) (λ (e : k ≡ i). absurd (other (sym e)))
-    (Contains-push_cases (drop few xs) k i (subst (λ ys. Contains ys i) (drop-append-le few xs (k ∷ []) many) h)))
-    (cases_lt (length xs) few)
+    (λ (many : scanned ≤ length xs).
+    ⊎_elim (λ (c : Contains (drop scanned xs) i). c) (λ (e : k ≡ i). absurd (other (sym e)))
+    (Contains-push_cases (drop scanned xs) k i
+    (subst (λ ys. Contains ys i) (drop-append-le scanned xs (k ∷ []) many) h)))
+    (cases_lt (length xs) scanned)
 
-pub beyond_last : (xs : List ℕ) (k : ℕ) → Contains (drop few (xs ++ k ∷ [])) k → few ≤ length xs
-beyond_last xs k h = let long = length-drop few (xs ++ k ∷ []) in
+pub beyond_last : (xs : List ℕ) (k : ℕ) → Contains (drop scanned (xs ++ k ∷ [])) k → scanned ≤ length xs
+beyond_last xs k h = let long = length-drop scanned (xs ++ k ∷ []) in
     omega (arith, h.1, long, length-append xs (k ∷ []))
 
 -- markers that stand at places
@@ -145,9 +148,11 @@ among_complete ms m ps i at h =
     list_any_at (stands_at ms m) ps h.0 i h.1
     (ap (stands_at ms m) h.2 ∙ ap (is_it m) at ∙ (fields_decides m m).1 refl)
 
-pub first_or_beyond : (ps : List ℕ) (i : ℕ) → Contains ps i → Contains (take few ps) i ⊎ Contains (drop few ps) i
+pub first_or_beyond : (ps : List ℕ) (i : ℕ) → Contains ps i
+    → Contains (take scanned ps) i ⊎ Contains (drop scanned ps) i
 first_or_beyond ps i h =
-    Contains-append_cases (take few ps) (drop few ps) i (subst (λ qs. Contains qs i) (sym (take-append-drop few ps)) h)
+    Contains-append_cases (take scanned ps) (drop scanned ps) i
+    (subst (λ qs. Contains qs i) (sym (take-append-drop scanned ps)) h)
 
 -- a store's markers and what stands under their digests after a marker more, a refused one, and one that is forgotten
 pub digested_push : (ms : List Fields) (m : Fields) (old new : Index) (before after : Digests)
@@ -160,14 +165,14 @@ digested_push ms m old new before after all adds itself keeps x i at d = ⊎_eli
     let same : x ≡ m = same_Some _ _ (sym at ∙ ap (slice_get (ms ++ m ∷ [])) e ∙ last ms m) in
     subst (λ j. Contains (under after (digest_of x)) j) (sym e)
     (subst (λ y. IsUnderDigest new after y (length ms)) (sym same) itself
-    (subst (λ j. Contains (drop few (places_of Predecessor new x.predecessor)) j) e d)))
+    (subst (λ j. Contains (drop scanned (places_of Predecessor new x.predecessor)) j) e d)))
     (λ (other : i ≢ length ms).
     let within = slice_get_within (ms ++ m ∷ []) i x at in
     let lt : i < length ms = omega (arith, within, length-append ms (m ∷ []), other) in
     keeps (digest_of x) i other (all x i (was ms m i x at lt) (⊎_elim
     (λ (yes : Contains (predecessors m) x.predecessor). beyond_before _ (length ms) i other
-    (subst (λ ps. Contains (drop few ps) i) (adds.here x.predecessor yes) d))
-    (λ (no : ¬ Contains (predecessors m) x.predecessor). subst (λ ps. Contains (drop few ps) i)
+    (subst (λ ps. Contains (drop scanned ps) i) (adds.here x.predecessor yes) d))
+    (λ (no : ¬ Contains (predecessors m) x.predecessor). subst (λ ps. Contains (drop scanned ps) i)
     (adds.others x.predecessor no) d)
     (among_or_not (predecessors m) x.predecessor))))
     (cases_eq i (length ms))
@@ -177,7 +182,8 @@ pub digested_same : (ms : List Fields) (old new : Index) (before after : Digests
 digested_same ms old new before after all same keeps x i at d =
     let lt = slice_get_within ms i x at in
     keeps (digest_of x) i (λ (e : i ≡ length ms). omega (arith, lt, e))
-    (all x i at (subst (λ (places : Node → List ℕ). Contains (drop few (places x.predecessor)) i) (same Predecessor) d))
+    (all x i at
+    (subst (λ (places : Node → List ℕ). Contains (drop scanned (places x.predecessor)) i) (same Predecessor) d))
 
 digested_cut : (ms : List Fields) (m : Fields) (old new : Index) (before after : Digests)
     → AreDigested (ms ++ m ∷ []) old before
@@ -188,9 +194,9 @@ digested_cut ms m old new before after all parts keeps x i at d =
     let lt = slice_get_within ms i x at in
     keeps (digest_of x) i (λ (e : i ≡ length ms). omega (arith, lt, e)) (all x i (stays ms m i x at) (⊎_elim
     (λ (e : places_of Predecessor old x.predecessor ≡ places_of Predecessor new x.predecessor).
-    subst (λ ps. Contains (drop few ps) i) (sym e) d)
+    subst (λ ps. Contains (drop scanned ps) i) (sym e) d)
     (λ (e : places_of Predecessor old x.predecessor ≡ places_of Predecessor new x.predecessor ++ length ms ∷ []).
-    subst (λ ps. Contains (drop few ps) i) (sym e) (beyond_more _ (length ms) i d)) (parts x.predecessor)))
+    subst (λ ps. Contains (drop scanned ps) i) (sym e) (beyond_more _ (length ms) i d)) (parts x.predecessor)))
 
 pub digested_forget : (xs : List Fields) (x : Fields) (place : ℕ) (old new : Index) (before after : Digests)
     → place + 1 ≡ length xs → x ≡ get_or xs place x → AreIndexed xs old → TakeMarker x place old new
@@ -209,11 +215,11 @@ all_of_first P zero xs h = tt
 all_of_first P (suc k) [] h = tt
 all_of_first P (suc k) (x ∷ xs) h = (h.0, all_of_first P k xs h.1)
 
-pub apart_none : AreApart []
+pub apart_none : AllDistinct []
 unfolding IsDistinct
 apart_none = tt
 
-pub apart_first : (k : ℕ) (xs : List Fields) → AreApart xs → AreApart (take k xs)
+pub apart_first : (k : ℕ) (xs : List Fields) → AllDistinct xs → AllDistinct (take k xs)
 unfolding IsDistinct
 apart_first zero xs h = tt
 apart_first (suc k) [] h = tt

@@ -19,7 +19,7 @@ use Rattle.hg_marker.specs.Same.{same_fields, fields_decides, fields_equivalence
 use Rattle.hg_obsstore.specs.declared.store.Added.{Added}
 use Rattle.hg_obsstore.specs.declared.store.Added.TheVariants.{New, Known}
 use Rattle.hg_obsstore.specs.Places.{ListsAll}
-use Rattle.hg_obsstore.specs.Markers.{AreApart}
+use Rattle.hg_obsstore.specs.Markers.{AllDistinct}
 use Rattle.hg_obsstore.specs.Growth.{AddAnswer, StartsWith, holds, new_among, united, with_marker}
 use Rattle.hg_obsstore.specs.Sets.{IsUnion, IsWithin}
 use Rattle.hg_obsstore.proofs.StoreLemmas.{held, held_back}
@@ -35,7 +35,7 @@ not_there ms xs m found told is missed there =
     false≢true (sym missed ∙ told.1 (subst (λ (ys : List Fields). Contains ys m) (sym is) there))
 
 -- so it is apart from those that are held
-pub apart_push : (ms : List Fields) (m : Fields) → AreApart ms → ¬ Contains ms m → AreApart (ms ++ m ∷ [])
+pub apart_push : (ms : List Fields) (m : Fields) → AllDistinct ms → ¬ Contains ms m → AllDistinct (ms ++ m ∷ [])
 apart_push ms m apart absent = IsDistinct-push fields_equivalence ms m apart (not_held ms m absent)
 
 -- one marker
@@ -126,20 +126,20 @@ at_its_place : (ms : List Fields) (m : Fields) (more : List Fields) → get_or (
 at_its_place [] m more = refl
 at_its_place (x ∷ ms) m more = at_its_place ms m more
 
-absent_before : (ms : List Fields) (m : Fields) (more : List Fields) → AreApart (ms ++ m ∷ more) → holds ms m ≡ false
+absent_before : (ms : List Fields) (m : Fields) (more : List Fields) → AllDistinct (ms ++ m ∷ more) → holds ms m ≡ false
 absent_before ms m more apart = not_held ms m (λ c.
     let long : length (ms ++ m ∷ more) ≡ length ms + length (m ∷ more) = length-append ms (m ∷ more) in
     let other = apart_from_distinct same_fields (ms ++ m ∷ more) c.0 (length ms) m apart c.1 (omega (arith, long)) in
     let one : get_or (ms ++ m ∷ more) c.0 m ≡ m = get_or_append_left ms (m ∷ more) m c.0 c.1 ∙ c.2 in
     false≢true (sym (rw (one, at_its_place ms m more) at other) ∙ (fields_decides m m).1 refl))
 
-new_apart : (ms more : List Fields) → AreApart (ms ++ more) → new_among ms more ≡ more
+new_apart : (ms more : List Fields) → AllDistinct (ms ++ more) → new_among ms more ≡ more
 new_apart ms [] apart = refl
 new_apart ms (m ∷ more) apart =
     rw (absent_before ms m more apart)
-    (ap (λ xs. m ∷ xs) (new_apart (ms ++ m ∷ []) more (subst AreApart (sym (append_assoc ms (m ∷ []) more)) apart)))
+    (ap (λ xs. m ∷ xs) (new_apart (ms ++ m ∷ []) more (subst AllDistinct (sym (append_assoc ms (m ∷ []) more)) apart)))
 
-pub copied : (ms : List Fields) → AreApart ms → united [] ms ≡ ms
+pub copied : (ms : List Fields) → AllDistinct ms → united [] ms ≡ ms
 copied ms apart = new_apart [] ms apart
 
 -- numbers one after the other

@@ -33,8 +33,8 @@ unfoldable pub digest_of : Fields → Node
 digest_of m = record { 0 = sha1 (digested m) }
 
 -- so many markers of a predecessor are looked at one by one
-abbrev pub few : ℕ
-few = 8
+abbrev pub scanned : ℕ
+scanned = 8
 
 abbrev pub found_places : Option Places → List ℕ
 found_places None = []
@@ -60,10 +60,11 @@ stands_at markers m place = is_it m (slice_get markers place)
 abbrev pub stands_among : List Fields → Fields → List ℕ → Bool
 stands_among markers m places = list_any (stands_at markers m) places
 
--- a place of a marker that isn't among the first few of its predecessor stands under its digest
+-- a place of a marker that isn't among those of its predecessor stands under its digest
 abbrev pub IsUnderDigest : Index → Digests → Fields → ℕ → Type 0
 IsUnderDigest index digests m place =
-    Contains (drop few (places_of Predecessor index m.predecessor)) place → Contains (under digests (digest_of m)) place
+    Contains (drop scanned (places_of Predecessor index m.predecessor)) place
+    → Contains (under digests (digest_of m)) place
 
 -- each of the markers stands so
 abbrev pub AreDigested : List Fields → Index → Digests → Type 0

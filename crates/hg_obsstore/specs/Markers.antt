@@ -8,8 +8,8 @@ use Rattle.hg_marker.specs.Same.{same_fields}
 use Rattle.hg_obsstore.specs.Places.{ListsAll}
 
 -- no two markers are equal, by the test of their fields
-abbrev pub AreApart : List Fields → Type 0
-AreApart markers = IsDistinct same_fields markers
+abbrev pub AllDistinct : List Fields → Type 0
+AllDistinct markers = IsDistinct same_fields markers
 
 -- no two markers are equal
 abbrev pub AreDifferent : List Fields → Type 0

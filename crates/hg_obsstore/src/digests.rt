@@ -5,7 +5,7 @@
 
 ghost use Rattle.std.specs.Prelude.{◌≡◌, ◌≤◌, ◌++◌, ℕ, List, [], OnOk, IsTrue, Contains, Some, slice_get, drop};
 ghost use Rattle.sha1.specs.Sha1.{Holds};
-ghost use Rattle.hg_obsstore.specs.Digests.{nodes_bytes, texts_bytes, digest_of, few, under};
+ghost use Rattle.hg_obsstore.specs.Digests.{nodes_bytes, texts_bytes, digest_of, scanned, under};
 ghost use Rattle.hg_obsstore.specs.Digests.{KeepsOtherDigests, stands_among, stands_at};
 ghost use Rattle.hg_obsstore.specs.Index.{without_last};
 
@@ -17,7 +17,7 @@ use std::alloc::{AllocError, Global};
 use std::collections::BTreeMap;
 
 // So many markers of one predecessor are looked at one by one.
-const FEW: usize = 8;
+const SCANNED: usize = 8;
 
 /// For each digest the places that were put there.
 #[derive(Drop)]
@@ -38,13 +38,13 @@ impl Digests {
     pub fn hold(&self, markers: &[Marker], places: &[usize], marker: &Marker) -> bool
         ensures sound { IsTrue result → Contains markers.now marker.now }
         ensures complete { (i : ℕ) → slice_get markers.now i ≡ Some marker.now → Contains places.now i
-            → (Contains (drop few places.now) i → Contains (under self.now (digest_of marker.now)) i)
+            → (Contains (drop scanned places.now) i → Contains (under self.now (digest_of marker.now)) i)
             → IsTrue result }
     {
-        if places.len() <= FEW {
+        if places.len() <= SCANNED {
             return is_among(markers, places, marker);
         }
-        is_among(markers, &places[..FEW], marker)
+        is_among(markers, &places[..SCANNED], marker)
             || is_among(markers, self.places(digest_of(marker)), marker)
     }
 
@@ -56,10 +56,10 @@ impl Digests {
         before: usize,
         place: usize,
     ) -> Result<(), AllocError>
-        ensures ok { OnOk result (few ≤ before → Contains (under self.new (digest_of marker.now)) place) }
+        ensures ok { OnOk result (scanned ≤ before → Contains (under self.new (digest_of marker.now)) place) }
         ensures kept { KeepsOtherDigests place self.old self.new }
     {
-        if before >= FEW {
+        if before >= SCANNED {
             self.put(alloc, digest_of(marker), place)?;
         }
         Ok(())
@@ -67,11 +67,11 @@ impl Digests {
 
     /// Takes the place of a marker away that was put under its digest, where it stands last there.
     pub fn remove(&mut self, marker: &Marker, before: usize, place: usize)
-        ensures taken { few ≤ before → under self.new (digest_of marker.now)
+        ensures taken { scanned ≤ before → under self.new (digest_of marker.now)
             ≡ without_last (under self.old (digest_of marker.now)) place }
         ensures kept { KeepsOtherDigests place self.old self.new }
     {
-        if before >= FEW {
+        if before >= SCANNED {
             self.take(digest_of(marker), place);
         }
     }

@@ -77,7 +77,7 @@ impl Model for Store {
     ghost use Rattle.hg_marker.specs.Fields.{Fields, fields_code};
     ghost use Rattle.hg_marker.specs.Grammar.{IsMarker};
     ghost use Rattle.hg_obsstore.specs.Places.{ListsAll};
-    ghost use Rattle.hg_obsstore.specs.Markers.{AreApart};
+    ghost use Rattle.hg_obsstore.specs.Markers.{AllDistinct};
     ghost use Rattle.hg_obsstore.specs.Indexes.{AreIndexed};
     ghost use Rattle.hg_obsstore.specs.Digests.{AreDigested};
 
@@ -87,7 +87,7 @@ impl Model for Store {
 
     ghost view = { λ s. s.markers.items };
 
-    ghost invariant = { λ s. AreApart s.markers.items × AreIndexed s.markers.items s.index
+    ghost invariant = { λ s. AllDistinct s.markers.items × AreIndexed s.markers.items s.index
         × All IsMarker s.markers.items × AreDigested s.markers.items s.index s.digests };
 }
 

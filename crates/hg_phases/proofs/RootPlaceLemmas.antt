@@ -25,7 +25,7 @@ use Rattle.hg_phases.specs.declared.lowered.LoweredPlace.{LoweredPlace}
 use Rattle.hg_phases.specs.Log.{IsLog}
 use Rattle.hg_phases.specs.State.{Held, held_of, state_of}
 use Rattle.hg_phases.specs.Roots.{IsRoot, AreRootsAmong, AreRoots}
-use Rattle.hg_phases.specs.RootPlaces.{HasParentIn, IsRootPlace, AreRootPlaces, IsFamily, IsTouched, IsUpToDate}
+use Rattle.hg_phases.specs.RootPlaces.{HasParentIn, IsRootPlace, AreRootPlaces, IsPlaceOrChild, IsTouched, IsUpToDate}
 use Rattle.hg_phases.specs.RootPlaces.{AreRecomputed}
 use Rattle.hg_phases.proofs.PlaceLemmas.{held-at, parts-at}
 
@@ -161,10 +161,10 @@ module _ (cs : List Contents) (ks : List Phase) where
 -- one that was logged more
 pub touched-one : (cs : List Contents) (log : List LoweredPlace) (i : ℕ) (d : LoweredPlace) → i < length log
     → (p : ℕ) → IsTouched cs (take (i + 1) log) p
-    → IsTouched cs (take i log) p ⊎ IsFamily cs (get_or log i d).place p
+    → IsTouched cs (take i log) p ⊎ IsPlaceOrChild cs (get_or log i d).place p
 touched-one cs log i d l p (e, at, family) = elim ((taken_one log i d e l).0 at) [
   | inl before ↦ inl (e, before, family)
-  | inr same ↦ inr (subst (λ x. IsFamily cs x.place p) (sym same) family)
+  | inr same ↦ inr (subst (λ x. IsPlaceOrChild cs x.place p) (sym same) family)
 ]
 
 -- ---- what stays
@@ -172,7 +172,7 @@ touched-one cs log i d l p (e, at, family) = elim ((taken_one log i d e l).0 at)
 -- where neither a place nor a parent of it differs, a root stands in both or in none
 module _ (cs : List Contents) (ks ls : List Phase) (D : ℕ → Type 0)
     (same : (j : ℕ) → (slice_get ls j ≡ slice_get ks j) ⊎ D j) where
-  pub alike-root : (p : ℕ) → ((j : ℕ) → D j → ¬ (IsFamily cs j p)) → IsRootPlace cs ks p → IsRootPlace cs ls p
+  pub alike-root : (p : ℕ) → ((j : ℕ) → D j → ¬ (IsPlaceOrChild cs j p)) → IsRootPlace cs ks p → IsRootPlace cs ls p
   alike-root p un (k, at, np, none) = elim (same p) [
     | inr d ↦ absurd (un p d (inl refl))
     | inl e ↦ (
@@ -189,7 +189,7 @@ other-way ks ls D same j = elim (same j) [ inl e ↦ inl (sym e) | inr d ↦ inr
 
 -- one phase was set, and its family recomputed
 pub roots-set : (cs : List Contents) (ks ls : List Phase) (place : ℕ) (k : Phase) (old new : List Bool)
-    → ls ≡ set ks place k → AreRootPlaces cs ks old → AreRecomputed cs ls (IsFamily cs place) old new
+    → ls ≡ set ks place k → AreRootPlaces cs ks old → AreRecomputed cs ls (IsPlaceOrChild cs place) old new
     → AreRootPlaces cs ls new
 roots-set cs ks ls place k old new is are recomputed =
     let D : ℕ → Type 0 = λ j. place ≡ j in
@@ -202,8 +202,8 @@ roots-set cs ks ls place k old new is are recomputed =
       up_to_date = λ p. elim (recomputed.each p) [
         | inl x ↦ x
         | inr x ↦
-            let un : (j : ℕ) → place ≡ j → ¬ (IsFamily cs j p) =
-            λ j e f. x.0 (subst (λ q. IsFamily cs q p) (sym e) f) in (
+            let un : (j : ℕ) → place ≡ j → ¬ (IsPlaceOrChild cs j p) =
+            λ j e f. x.0 (subst (λ q. IsPlaceOrChild cs q p) (sym e) f) in (
               λ at. alike-root cs ks ls (λ j. place ≡ j) same p un ((are.up_to_date p).0 (sym x.1 ∙ at)),
               λ root. x.1 ∙ (are.up_to_date p).1
                   (alike-root cs ls ks (λ j. place ≡ j) (other-way ks ls (λ j. place ≡ j) same) p un root),
@@ -229,8 +229,8 @@ roots-updated cs graph phase start now log l n old grown mid new le are long fro
         | inr x ↦ elim (cases_lt p n) [
           | inr ge ↦ absurd (x.0 (inl ge))
           | inl less ↦
-              let un : (j : ℕ) → ((e : LoweredPlace) × Contains log e × (e.place ≡ j)) → ¬ (IsFamily cs j p) =
-              λ j d f. x.0 (inr (d.0, d.1, subst (λ q. IsFamily cs q p) (sym d.2) f)) in (
+              let un : (j : ℕ) → ((e : LoweredPlace) × Contains log e × (e.place ≡ j)) → ¬ (IsPlaceOrChild cs j p) =
+              λ j d f. x.0 (inr (d.0, d.1, subst (λ q. IsPlaceOrChild cs q p) (sym d.2) f)) in (
                 λ at. alike-root cs start now (λ j. (e : LoweredPlace) × Contains log e × (e.place ≡ j)) l.rest p un
                     (root-whole cs graph start n p
                     ((are.up_to_date p).0

@@ -3,16 +3,11 @@ use Rattle.std.specs.Prelude.{List, length, take, ◌-◌}
 use Rattle.hg_changeset.specs.Contents.{Contents}
 use Rattle.hg_phases.specs.declared.phase.Phase.{Phase}
 use Rattle.hg_phases.specs.declared.lowered.LoweredPlace.{LoweredPlace}
-use Rattle.hg_phases.specs.State.{State, state_of}
 use Rattle.hg_phases.specs.Log.{IsLog, restored}
 
 -- the phase at each place, as a map keeps it: here it keeps just that
 abbrev pub phases_at : List Contents → List Phase → List Phase
 phases_at cs kept = kept
-
--- the state that a graph and its map are
-abbrev pub kept_state : List Contents → List Phase → State
-kept_state cs kept = state_of cs (phases_at cs kept)
 
 -- the graph as it was before its last changeset
 abbrev pub before_last : List Contents → List Contents

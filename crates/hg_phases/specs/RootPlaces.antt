@@ -31,12 +31,12 @@ pub record AreRecomputed (cs : List Contents) (ks : List Phase) (P : ℕ → Typ
   pub each : (p : ℕ) → IsUpToDate cs ks new p ⊎ (¬ (P p) × (slice_get new p ≡ slice_get old p))
 
 -- the place, or that of a child of the changeset there
-abbrev pub IsFamily : List Contents → ℕ → ℕ → Type 0
-IsFamily cs place p = (place ≡ p) ⊎ IsParentPlace cs p place
+abbrev pub IsPlaceOrChild : List Contents → ℕ → ℕ → Type 0
+IsPlaceOrChild cs place p = (place ≡ p) ⊎ IsParentPlace cs p place
 
 -- what was logged stands at the place, or is a parent of what stands there
 abbrev pub IsTouched : List Contents → List LoweredPlace → ℕ → Type 0
-IsTouched cs log p = (e : LoweredPlace) × Contains log e × IsFamily cs e.place p
+IsTouched cs log p = (e : LoweredPlace) × Contains log e × IsPlaceOrChild cs e.place p
 
 -- the roots that are kept are those of the changesets before a place, before what was logged went down
 abbrev pub AreRootsBefore : List Contents → PhaseRoots → List LoweredPlace → ℕ → Type 0
@@ -44,6 +44,6 @@ AreRootsBefore cs kept log before =
     AreRootPlaces (take before cs) (take before (phases_before cs kept.phases log)) kept.roots
 
 -- a phase for each changeset, and exactly the roots
-pub record AreKept (cs : List Contents) (kept : PhaseRoots) : Type 0 where
+pub record ArePhasesAndRoots (cs : List Contents) (kept : PhaseRoots) : Type 0 where
   pub len : length (phases_at cs kept.phases) ≡ length cs
   pub roots : AreRootPlaces cs (phases_at cs kept.phases) kept.roots

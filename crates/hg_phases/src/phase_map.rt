@@ -13,7 +13,7 @@ ghost use Rattle.hg_changeset.specs.declared.node.Node.{Node};
 ghost use Rattle.hg_graph.specs.Graph.{Holds as GraphHolds, IsGraph};
 ghost use Rattle.hg_graph.specs.Places.{IsAt};
 ghost use Rattle.hg_phases.specs.State.{state_of, Holds, IsPhaseOf, IsValid};
-ghost use Rattle.hg_phases.specs.Kept.{phases_at, kept_state, before_last, phases_before, IsLogOf};
+ghost use Rattle.hg_phases.specs.Kept.{phases_at, before_last, phases_before, IsLogOf};
 ghost use Rattle.hg_phases.specs.Least.{IsLeast, bound_alone};
 ghost use Rattle.hg_phases.specs.Lowered.{IsAbove, ListsLowered};
 ghost use Rattle.hg_phases.specs.Roots.{IsOpened};
@@ -58,8 +58,8 @@ impl PhaseMap {
     /// or an ancestor of it, and public where there is none. Roots that the graph doesn't hold say nothing.
     pub fn open(alloc: Global, graph: &Graph, roots: &Roots) -> Result<PhaseMap, AllocError>
         ensures opened { IfOk result (λ map. (length (phases_at graph.now map) ≡ length graph.now)
-            × IsOpened graph.now roots.now (kept_state graph.now map)) }
-        ensures valid { IfOk result (λ map. IsValid (kept_state graph.now map)) }
+            × IsOpened graph.now roots.now (state_of graph.now map)) }
+        ensures valid { IfOk result (λ map. IsValid (state_of graph.now map)) }
     {
         let phases = phases_under(graph, alloc, roots.as_slice())?;
         Ok(PhaseMap { phases })
@@ -78,8 +78,8 @@ impl PhaseMap {
     pub fn phase_of(&self, graph: &Graph, node: Node) -> Result<Option<Phase>, AllocError>
         requires { length (phases_at graph.now self.now) ≡ length graph.now }
         ensures { IsOkAnd result
-            (λ phase. MatchOption phase (¬ (Holds (kept_state graph.now self.now) node))
-            (IsPhaseOf (kept_state graph.now self.now) node)) }
+            (λ phase. MatchOption phase (¬ (Holds (state_of graph.now self.now) node))
+            (IsPhaseOf (state_of graph.now self.now) node)) }
     {
         match graph.place(node) {
             Some(place) => Ok(Some(self.at(graph, place))),
@@ -102,8 +102,8 @@ impl PhaseMap {
         requires added { IsAt graph.now node (length graph.now - 1) }
         ensures admitted { OnOk result (phases_at graph.now self.new ≡ phases_at (before_last graph.now) self.old
             ++ Phase.Secret ∷ []) }
-        ensures valid { IsGraph graph.now → IsValid (kept_state (before_last graph.now) self.old)
-            → OnOk result (IsValid (kept_state graph.now self.new)) }
+        ensures valid { IsGraph graph.now → IsValid (state_of (before_last graph.now) self.old)
+            → OnOk result (IsValid (state_of graph.now self.new)) }
         ensures unchanged { OnErr result (self.new ≡ self.old) }
     {
         self.phases.push(Phase::Secret)?;
@@ -115,16 +115,16 @@ impl PhaseMap {
     /// down.
     pub fn lower(&mut self, graph: &Graph, node: Node, phase: Phase) -> Result<Lowered, AllocError>
         requires len { length (phases_at graph.now self.old) ≡ length graph.now }
-        requires valid { IsValid (kept_state graph.now self.old) }
+        requires valid { IsValid (state_of graph.now self.old) }
         requires held { GraphHolds graph.now node }
-        ensures least { OnOk result (IsLeast (kept_state graph.now self.old) (bound_alone (node, phase) ∷ [])
-            (kept_state graph.now self.new)) }
-        ensures valid { OnOk result (IsValid (kept_state graph.now self.new)) }
-        ensures lowered { IfOk result (λ lowered. ListsLowered (kept_state graph.now self.old)
-            (kept_state graph.now self.new) lowered.nodes.items) }
+        ensures least { OnOk result (IsLeast (state_of graph.now self.old) (bound_alone (node, phase) ∷ [])
+            (state_of graph.now self.new)) }
+        ensures valid { OnOk result (IsValid (state_of graph.now self.new)) }
+        ensures lowered { IfOk result (λ lowered. ListsLowered (state_of graph.now self.old)
+            (state_of graph.now self.new) lowered.nodes.items) }
         ensures len { length (phases_at graph.now self.new) ≡ length graph.now }
         ensures unchanged { OnErr result (self.new ≡ self.old) }
-        ensures memory { OnErr result (IsAbove (kept_state graph.now self.old) node phase) }
+        ensures memory { OnErr result (IsAbove (state_of graph.now self.old) node phase) }
     {
         let mut log = LoweringLog::new(*self.phases.allocator());
         match self.lower_and_tell(graph, &mut log, node, phase) {
@@ -145,18 +145,18 @@ impl PhaseMap {
         phase: Phase,
     ) -> Result<Lowered, AllocError>
         requires len { length (phases_at graph.now self.old) ≡ length graph.now }
-        requires valid { IsValid (kept_state graph.now self.old) }
+        requires valid { IsValid (state_of graph.now self.old) }
         requires held { GraphHolds graph.now node }
         requires fresh { log.old ≡ [] }
-        ensures least { OnOk result (IsLeast (kept_state graph.now self.old) (bound_alone (node, phase) ∷ [])
-            (kept_state graph.now self.new)) }
-        ensures valid { OnOk result (IsValid (kept_state graph.now self.new)) }
-        ensures lowered { IfOk result (λ lowered. ListsLowered (kept_state graph.now self.old)
-            (kept_state graph.now self.new) lowered.nodes.items) }
+        ensures least { OnOk result (IsLeast (state_of graph.now self.old) (bound_alone (node, phase) ∷ [])
+            (state_of graph.now self.new)) }
+        ensures valid { OnOk result (IsValid (state_of graph.now self.new)) }
+        ensures lowered { IfOk result (λ lowered. ListsLowered (state_of graph.now self.old)
+            (state_of graph.now self.new) lowered.nodes.items) }
         ensures logged { IsLog phase (phases_at graph.now self.old) (phases_at graph.now self.new) log.new }
         ensures undoes { phases_before graph.now self.new log.new ≡ phases_at graph.now self.old }
         ensures len { length (phases_at graph.now self.new) ≡ length graph.now }
-        ensures memory { OnErr result (IsAbove (kept_state graph.now self.old) node phase) }
+        ensures memory { OnErr result (IsAbove (state_of graph.now self.old) node phase) }
     {
         self.lower_logged(graph, log, node, phase)?;
         let nodes = log.nodes_before(graph, graph.len())?;
@@ -176,17 +176,17 @@ impl PhaseMap {
         phase: Phase,
     ) -> Result<(), AllocError>
         requires len { length (phases_at graph.now self.old) ≡ length graph.now }
-        requires valid { IsValid (kept_state graph.now self.old) }
+        requires valid { IsValid (state_of graph.now self.old) }
         requires held { GraphHolds graph.now node }
-        ensures least { OnOk result (IsLeast (kept_state graph.now self.old) (bound_alone (node, phase) ∷ [])
-            (kept_state graph.now self.new)) }
-        ensures valid { OnOk result (IsValid (kept_state graph.now self.new)) }
+        ensures least { OnOk result (IsLeast (state_of graph.now self.old) (bound_alone (node, phase) ∷ [])
+            (state_of graph.now self.new)) }
+        ensures valid { OnOk result (IsValid (state_of graph.now self.new)) }
         ensures logged { (start : List Phase) → IsLog phase start (phases_at graph.now self.old) log.old
             → IsLog phase start (phases_at graph.now self.new) log.new }
         ensures undoes { phases_before graph.now self.new log.new ≡ phases_before graph.now self.old log.old }
         ensures len { length (phases_at graph.now self.new) ≡ length (phases_at graph.now self.old) }
-        ensures memory { OnErr result (IsAbove (kept_state graph.now self.old) node phase) }
-        ensures still { IsAbove (kept_state graph.now self.old) node phase
+        ensures memory { OnErr result (IsAbove (state_of graph.now self.old) node phase) }
+        ensures still { IsAbove (state_of graph.now self.old) node phase
             ⊎ ((phases_at graph.now self.new ≡ phases_at graph.now self.old) × (log.new ≡ log.old)) }
     {
         match graph.place(node) {
@@ -203,7 +203,7 @@ impl PhaseMap {
         requires logged { IsLogOf graph.now self.old log.old }
         ensures back { phases_at (take before graph.now) self.new
             ≡ take before (phases_before graph.now self.old log.old) }
-        ensures valid { IsValid (kept_state (take before graph.now) self.new) }
+        ensures valid { IsValid (state_of (take before graph.now) self.new) }
         ensures emptied { log.new ≡ [] }
     {
         self.restore(&mut log.places);

@@ -9,13 +9,13 @@ ghost use Rattle.std.specs.Prelude.{MatchOption, length, slice_get, take};
 ghost use Rattle.hg_graph.specs.Graph.{Holds as GraphHolds, IsGraph};
 ghost use Rattle.hg_graph.specs.Places.{IsAt};
 ghost use Rattle.hg_phases.specs.declared.phase.Phase.{Phase};
-ghost use Rattle.hg_phases.specs.State.{Holds, IsPhaseOf, IsValid};
-ghost use Rattle.hg_phases.specs.Kept.{phases_at, kept_state, before_last, phases_before, IsLogOf};
+ghost use Rattle.hg_phases.specs.State.{Holds, IsPhaseOf, IsValid, state_of};
+ghost use Rattle.hg_phases.specs.Kept.{phases_at, before_last, phases_before, IsLogOf};
 ghost use Rattle.hg_phases.specs.Least.{IsLeast, bound_alone};
 ghost use Rattle.hg_phases.specs.Lowered.{IsAbove, ListsLowered};
 ghost use Rattle.hg_phases.specs.Log.{IsLog};
 ghost use Rattle.hg_phases.specs.Roots.{AreRoots, IsOpened};
-ghost use Rattle.hg_phases.specs.RootPlaces.{AreRootsBefore, AreKept};
+ghost use Rattle.hg_phases.specs.RootPlaces.{AreRootsBefore, ArePhasesAndRoots};
 
 use crate::lowered::{Lowered, LoweringLog};
 use crate::phase::Phase;
@@ -44,7 +44,7 @@ impl PhaseRoots {
     /// The phases of a graph without changesets.
     pub fn new(alloc: Global) -> PhaseRoots
         ensures none { phases_at [] result.phases ≡ [] }
-        ensures kept { AreKept [] result }
+        ensures kept { ArePhasesAndRoots [] result }
     {
         PhaseRoots {
             phases: PhaseMap::new(alloc),
@@ -56,9 +56,9 @@ impl PhaseRoots {
     /// The phases that listed roots give the changesets of a graph: each the highest phase of a listed root that is it
     /// or an ancestor of it, and public where there is none. Roots that the graph doesn't hold say nothing.
     pub fn open(alloc: Global, graph: &Graph, roots: &Roots) -> Result<PhaseRoots, AllocError>
-        ensures opened { IfOk result (λ kept. IsOpened graph.now roots.now (kept_state graph.now kept.phases)) }
-        ensures valid { IfOk result (λ kept. IsValid (kept_state graph.now kept.phases)) }
-        ensures kept { IfOk result (AreKept graph.now) }
+        ensures opened { IfOk result (λ kept. IsOpened graph.now roots.now (state_of graph.now kept.phases)) }
+        ensures valid { IfOk result (λ kept. IsValid (state_of graph.now kept.phases)) }
+        ensures kept { IfOk result (ArePhasesAndRoots graph.now) }
     {
         let mut kept = PhaseRoots {
             phases: PhaseMap::open(alloc, graph, roots)?,
@@ -84,8 +84,8 @@ impl PhaseRoots {
     pub fn phase_of(&self, graph: &Graph, node: Node) -> Result<Option<Phase>, AllocError>
         requires { length (phases_at graph.now self.now.phases) ≡ length graph.now }
         ensures { IsOkAnd result
-            (λ phase. MatchOption phase (¬ (Holds (kept_state graph.now self.now.phases) node))
-            (IsPhaseOf (kept_state graph.now self.now.phases) node)) }
+            (λ phase. MatchOption phase (¬ (Holds (state_of graph.now self.now.phases) node))
+            (IsPhaseOf (state_of graph.now self.now.phases) node)) }
     {
         self.phases.phase_of(graph, node)
     }
@@ -102,8 +102,8 @@ impl PhaseRoots {
     /// The roots: exactly the draft and secret changesets none of whose parents has their phase, each once, in the
     /// graph's order. It costs what the roots are.
     pub fn roots(&self, graph: &Graph) -> Result<Roots, AllocError>
-        requires kept { AreKept graph.now self.now }
-        ensures { IfOk result (AreRoots (kept_state graph.now self.now.phases)) }
+        requires kept { ArePhasesAndRoots graph.now self.now }
+        ensures { IfOk result (AreRoots (state_of graph.now self.now.phases)) }
     {
         roots_at(graph, &self.phases, &self.roots, self.alloc)
     }
@@ -112,12 +112,12 @@ impl PhaseRoots {
     pub fn admit(&mut self, graph: &Graph, node: Node) -> Result<(), AllocError>
         requires len { length graph.now ≡ length (phases_at (before_last graph.now) self.old.phases) + 1 }
         requires added { IsAt graph.now node (length graph.now - 1) }
-        requires kept { AreKept (before_last graph.now) self.old }
+        requires kept { ArePhasesAndRoots (before_last graph.now) self.old }
         ensures admitted { OnOk result (phases_at graph.now self.new.phases
             ≡ phases_at (before_last graph.now) self.old.phases ++ Phase.Secret ∷ []) }
-        ensures kept { OnOk result (AreKept graph.now self.new) }
-        ensures valid { IsGraph graph.now → IsValid (kept_state (before_last graph.now) self.old.phases)
-            → OnOk result (IsValid (kept_state graph.now self.new.phases)) }
+        ensures kept { OnOk result (ArePhasesAndRoots graph.now self.new) }
+        ensures valid { IsGraph graph.now → IsValid (state_of (before_last graph.now) self.old.phases)
+            → OnOk result (IsValid (state_of graph.now self.new.phases)) }
         ensures unchanged { OnErr result ((self.new.phases ≡ self.old.phases) × (self.new.roots ≡ self.old.roots)) }
     {
         self.phases.admit(graph, node)?;
@@ -134,17 +134,17 @@ impl PhaseRoots {
     /// A refusal leaves every phase as it was, and comes only where the changeset's phase is higher, so that it goes
     /// down.
     pub fn lower(&mut self, graph: &Graph, node: Node, phase: Phase) -> Result<Lowered, AllocError>
-        requires valid { IsValid (kept_state graph.now self.old.phases) }
+        requires valid { IsValid (state_of graph.now self.old.phases) }
         requires held { GraphHolds graph.now node }
-        requires kept { AreKept graph.now self.old }
-        ensures least { OnOk result (IsLeast (kept_state graph.now self.old.phases) (bound_alone (node, phase) ∷ [])
-            (kept_state graph.now self.new.phases)) }
-        ensures valid { OnOk result (IsValid (kept_state graph.now self.new.phases)) }
-        ensures lowered { IfOk result (λ lowered. ListsLowered (kept_state graph.now self.old.phases)
-            (kept_state graph.now self.new.phases) lowered.nodes.items) }
-        ensures kept { AreKept graph.now self.new }
+        requires kept { ArePhasesAndRoots graph.now self.old }
+        ensures least { OnOk result (IsLeast (state_of graph.now self.old.phases) (bound_alone (node, phase) ∷ [])
+            (state_of graph.now self.new.phases)) }
+        ensures valid { OnOk result (IsValid (state_of graph.now self.new.phases)) }
+        ensures lowered { IfOk result (λ lowered. ListsLowered (state_of graph.now self.old.phases)
+            (state_of graph.now self.new.phases) lowered.nodes.items) }
+        ensures kept { ArePhasesAndRoots graph.now self.new }
         ensures unchanged { OnErr result (self.new.phases ≡ self.old.phases) }
-        ensures memory { OnErr result (IsAbove (kept_state graph.now self.old.phases) node phase) }
+        ensures memory { OnErr result (IsAbove (state_of graph.now self.old.phases) node phase) }
     {
         let mut log = LoweringLog::new(self.alloc);
         match self.lower_and_update(graph, &mut log, node, phase) {
@@ -165,21 +165,21 @@ impl PhaseRoots {
         node: Node,
         phase: Phase,
     ) -> Result<Lowered, AllocError>
-        requires valid { IsValid (kept_state graph.now self.old.phases) }
+        requires valid { IsValid (state_of graph.now self.old.phases) }
         requires held { GraphHolds graph.now node }
-        requires kept { AreKept graph.now self.old }
+        requires kept { ArePhasesAndRoots graph.now self.old }
         requires fresh { log.old ≡ [] }
-        ensures least { OnOk result (IsLeast (kept_state graph.now self.old.phases) (bound_alone (node, phase) ∷ [])
-            (kept_state graph.now self.new.phases)) }
-        ensures valid { OnOk result (IsValid (kept_state graph.now self.new.phases)) }
-        ensures lowered { IfOk result (λ lowered. ListsLowered (kept_state graph.now self.old.phases)
-            (kept_state graph.now self.new.phases) lowered.nodes.items) }
+        ensures least { OnOk result (IsLeast (state_of graph.now self.old.phases) (bound_alone (node, phase) ∷ [])
+            (state_of graph.now self.new.phases)) }
+        ensures valid { OnOk result (IsValid (state_of graph.now self.new.phases)) }
+        ensures lowered { IfOk result (λ lowered. ListsLowered (state_of graph.now self.old.phases)
+            (state_of graph.now self.new.phases) lowered.nodes.items) }
         ensures logged { IsLog phase (phases_at graph.now self.old.phases) (phases_at graph.now self.new.phases)
             log.new }
         ensures undoes { phases_before graph.now self.new.phases log.new ≡ phases_at graph.now self.old.phases }
-        ensures kept { OnOk result (AreKept graph.now self.new) }
+        ensures kept { OnOk result (ArePhasesAndRoots graph.now self.new) }
         ensures roots { OnErr result (self.new.roots ≡ self.old.roots) }
-        ensures memory { OnErr result (IsAbove (kept_state graph.now self.old.phases) node phase) }
+        ensures memory { OnErr result (IsAbove (state_of graph.now self.old.phases) node phase) }
     {
         let lowered = self.phases.lower_and_tell(graph, log, node, phase)?;
         self.update(graph, log, graph.len())?;
@@ -201,7 +201,7 @@ impl PhaseRoots {
         requires logged { IsLogOf graph.now self.old.phases log.now }
         requires rooted { AreRootsBefore graph.now self.old log.now before }
         ensures same { self.new.phases ≡ self.old.phases }
-        ensures kept { OnOk result (AreKept graph.now self.new) }
+        ensures kept { OnOk result (ArePhasesAndRoots graph.now self.new) }
         ensures unchanged { OnErr result (self.new.roots ≡ self.old.roots) }
         ensures memory { OnErr result (before < length graph.now) }
     {
@@ -217,13 +217,13 @@ impl PhaseRoots {
     /// Takes back what was logged, with the roots, and forgets the changesets from the place `before` on, which the
     /// graph is about to forget. It takes no memory.
     pub fn take_back(&mut self, graph: &Graph, log: &mut LoweringLog, before: usize)
-        requires kept { AreKept graph.now self.old }
-        requires valid { IsValid (kept_state graph.now self.old.phases) }
+        requires kept { ArePhasesAndRoots graph.now self.old }
+        requires valid { IsValid (state_of graph.now self.old.phases) }
         requires within { before ≤ length graph.now }
         requires logged { IsLogOf graph.now self.old.phases log.old }
         ensures back { phases_at (take before graph.now) self.new.phases
             ≡ take before (phases_before graph.now self.old.phases log.old) }
-        ensures kept { AreKept (take before graph.now) self.new }
+        ensures kept { ArePhasesAndRoots (take before graph.now) self.new }
         ensures emptied { log.new ≡ [] }
     {
         take_back_logged(graph, &mut self.phases, &mut self.roots, &mut log.places);

@@ -8,7 +8,7 @@ ghost use Rattle.hg_phases.specs.declared.phase.Phase.{Phase};
 ghost use Rattle.hg_phases.specs.State.{state_of};
 ghost use Rattle.hg_phases.specs.Log.{IsLog, restored};
 ghost use Rattle.hg_phases.specs.Roots.{AreRoots};
-ghost use Rattle.hg_phases.specs.RootPlaces.{HasParentIn, IsRootPlace, AreRootPlaces, IsFamily, IsTouched};
+ghost use Rattle.hg_phases.specs.RootPlaces.{HasParentIn, IsRootPlace, AreRootPlaces, IsPlaceOrChild, IsTouched};
 ghost use Rattle.hg_phases.specs.RootPlaces.{AreRecomputed};
 
 use crate::lowered::{LoweredPlace, LoweredPlaces};
@@ -94,7 +94,7 @@ fn recompute_family(graph: &Graph, phases: &PhaseMap, roots: &mut PlaceSet, plac
     requires len { length phases.now ≡ length graph.now }
     requires seats { length roots.old ≡ length graph.now }
     requires within { place < length graph.now }
-    ensures { AreRecomputed graph.now phases.now (IsFamily graph.now place) roots.old roots.new }
+    ensures { AreRecomputed graph.now phases.now (IsPlaceOrChild graph.now place) roots.old roots.new }
 {
     recompute(graph, phases, roots, place);
     for child in graph.children(place) {

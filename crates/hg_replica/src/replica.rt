@@ -8,7 +8,7 @@ ghost use Rattle.std.specs.Cow.{cow_value};
 ghost use Rattle.hg_join.specs.Absorbed.{without_undo, join_without_undo};
 ghost use Rattle.hg_phases.specs.State.{Held, changesets, state_of, Holds, IsPhaseOf};
 ghost use Rattle.hg_phases.specs.Roots.{AreRoots};
-ghost use Rattle.hg_obsstore.specs.Markers.{AreApart};
+ghost use Rattle.hg_obsstore.specs.Markers.{AllDistinct};
 ghost use Rattle.hg_history.specs.Open.{MayWantMemory};
 ghost use Rattle.hg_replica.specs.State.{ReplicaState, IsSameState, IsValid, Below};
 ghost use Rattle.hg_replica.specs.Least.{part_of};

@@ -2,7 +2,7 @@ use Rattle.std.proofs.Common.{◌≡◌, ◌∙◌, [], sym, ap, subst, refl, Li
 use Rattle.std.proofs.lemmas.Option.{slice_get_read}
 use Rattle.std.proofs.lemmas.List.Elements.{Contains-push}
 use Rattle.hg_obsstore.specs.Index.{places_of}
-use Rattle.hg_obsstore.specs.Digests.{few}
+use Rattle.hg_obsstore.specs.Digests.{scanned}
 use Rattle.hg_obsstore.specs.declared.index.Role.TheVariants.{Predecessor}
 use Rattle.hg_obsstore.proofs.store.look_up.Goals as goal
 
@@ -19,5 +19,5 @@ returns-clause-held c =
           c.hold.ensures.complete there.0 at
           (subst (λ (ps : List ℕ). Contains ps there.0) (sym is)
           (((c.requires.indexed.predecessor m.predecessor).exact there.0).1 (m, at, Contains-push [] m.predecessor)))
-          (λ d. c.requires.digested m there.0 at (subst (λ (ps : List ℕ). Contains (drop few ps) there.0) is d))),
+          (λ d. c.requires.digested m there.0 at (subst (λ (ps : List ℕ). Contains (drop scanned ps) there.0) is d))),
     )

@@ -4,7 +4,7 @@ use Rattle.std.proofs.lemmas.List.Elements.{Contains-get_or}
 use Rattle.std.proofs.lemmas.Option.{slice_get_within}
 use Rattle.hg_changeset.proofs.ListLemmas.{Contains-none}
 use Rattle.hg_graph.proofs.WalkLemmas.{taken_one}
-use Rattle.hg_phases.specs.RootPlaces.{IsFamily}
+use Rattle.hg_phases.specs.RootPlaces.{IsPlaceOrChild}
 use Rattle.hg_phases.proofs.RootPlaceLemmas.{recomputed-less, recomputed-then}
 use Rattle.hg_phases.proofs.root_places.recompute_family.Goals as goal
 

@@ -1,7 +1,7 @@
 use Rattle.std.proofs.Common.{◌+◌, take, get_or}
 use Rattle.hg_phases.specs.declared.phase.Phase.TheVariants.{Public}
 use Rattle.hg_phases.specs.declared.lowered.LoweredPlace.{LoweredPlace}
-use Rattle.hg_phases.specs.RootPlaces.{IsFamily, IsTouched}
+use Rattle.hg_phases.specs.RootPlaces.{IsPlaceOrChild, IsTouched}
 use Rattle.hg_phases.proofs.RootPlaceLemmas.{recomputed-then, touched-one}
 use Rattle.hg_phases.proofs.root_places.recompute_logged.Goals as goal
 

@@ -1,6 +1,6 @@
 use Rattle.std.proofs.Common.{◌≡◌, ◌∙◌, sym, subst}
 use Rattle.hg_phases.specs.State.{State, IsValid, state_of}
-use Rattle.hg_phases.specs.RootPlaces.{AreKept}
+use Rattle.hg_phases.specs.RootPlaces.{ArePhasesAndRoots}
 use Rattle.hg_history.specs.Undo.{UndoValue, LeadsBack}
 use Rattle.hg_history.proofs.UndoLemmas.{led_within, led_logged, led_state}
 use Rattle.hg_history.proofs.history.History.take_back.Goals as goal
@@ -35,7 +35,7 @@ module _ (c : After-drop-log) where
 
 pub invariant_of-self : goal.invariant_of-self
 invariant_of-self c = (
-  subst (λ cs. AreKept cs c.take_back.new.self) (sym c.truncate.ensures) c.take_back.ensures.kept,
+  subst (λ cs. ArePhasesAndRoots cs c.take_back.new.self) (sym c.truncate.ensures) c.take_back.ensures.kept,
   subst IsValid (sym (state_is c c.requires.0 c.requires.1)) c.requires.1.valid,
 )
 

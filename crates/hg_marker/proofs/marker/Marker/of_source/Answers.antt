@@ -1,7 +1,8 @@
 use Rattle.std.proofs.Common.{◌≡◌, ◌≤◌, length, sym, ◌∙◌, arith, subst, rules}
 use Rattle.hg_marker.specs.Source.{source_texts}
 use Rattle.hg_marker.specs.Metadata.{written}
-use Rattle.hg_marker.specs.Grammar.{IsMarker, metadata_limit}
+use Rattle.hg_marker.specs.Grammar.{IsMarker}
+use Rattle.hg_marker.specs.Limits.{metadata_limit}
 use Rattle.hg_marker.proofs.FormLemmas.{writable_from}
 use Rattle.hg_marker.proofs.ReadLemmas.{tested_is_clean}
 use Rattle.hg_marker.proofs.marker.Marker.of_source.Goals as goal
@@ -32,7 +33,7 @@ invariant_of-result c =
         predecessor = (search rules, c.holds.ensures.bytes);
         successors = c.has_null.ensures.nodes c.if-has_null.false;
         present = sym c.has_null.ensures.null ∙ c.if-has_null.false;
-        few = omega (arith, c.if-successors-gt255.false);
+        few = omega (arith, c.if-successors-gt-SUCCESSOR_LIMIT.false);
         flags = c.ranges.flags.fits;
       };
       clean = tested_is_clean _ (sym c.has_bad_key.ensures ∙ c.if-has_bad_key.false)

@@ -3,7 +3,7 @@ use Rattle.std.proofs.lemmas.List.Elements.{All-push}
 use Rattle.hg_marker.specs.Fields.{Fields}
 use Rattle.hg_marker.specs.Grammar.{IsMarker}
 use Rattle.hg_obsstore.specs.declared.store.Added.TheVariants.{New}
-use Rattle.hg_obsstore.specs.Markers.{AreApart}
+use Rattle.hg_obsstore.specs.Markers.{AllDistinct}
 use Rattle.hg_obsstore.proofs.GrowthLemmas.{apart_push, not_there, with_added, with_known}
 use Rattle.hg_obsstore.proofs.store.Store.add_copy.Goals as goal
 
@@ -13,7 +13,7 @@ invariant_of-self-2 c =
     let m = c.args.marker.now in
     let items = sym (c.in_ok-put_last.ensures.ok ∙ ap (λ (x : Fields). ms ++ x ∷ []) c.in_ok-copy.ensures) in
     let absent = not_there ms _ m _ c.look_up-held.ensures.held c.deref.ensures.value c.if-held.false in (
-      subst AreApart items (apart_push ms m c.self.invariant.0 absent),
+      subst AllDistinct items (apart_push ms m c.self.invariant.0 absent),
       c.put_last.ensures.indexed,
       subst (All IsMarker) items (All-push IsMarker ms m c.self.invariant.2 c.look_up-held.ensures.marker),
       c.put_last.ensures.digested,

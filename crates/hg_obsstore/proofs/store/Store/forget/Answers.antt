@@ -2,7 +2,7 @@ use Rattle.std.proofs.Common.{rules, ◌≡◌, ◌+◌, ◌∙◌, sym, ap, sub
 use Rattle.std.proofs.lemmas.List.Elements.{All-take}
 use Rattle.hg_marker.specs.Fields.{Fields}
 use Rattle.hg_marker.specs.Grammar.{IsMarker}
-use Rattle.hg_obsstore.specs.Markers.{AreApart}
+use Rattle.hg_obsstore.specs.Markers.{AllDistinct}
 use Rattle.hg_obsstore.specs.Indexes.{AreIndexed}
 use Rattle.hg_obsstore.specs.Digests.{AreDigested}
 use Rattle.hg_obsstore.proofs.ForgetLemmas.{all_forget}
@@ -16,7 +16,7 @@ invariant_of-self c =
     let cut = sym c.truncate.ensures.items in
     let at : c.args.place + 1 ≡ length xs = c.requires ∙ ap length (sym c.self.view_is) in
     let read : x ≡ get_or xs c.args.place x = search rules in (
-      subst AreApart cut (apart_first c.args.place xs c.self.invariant.0),
+      subst AllDistinct cut (apart_first c.args.place xs c.self.invariant.0),
       subst (λ (ys : List Fields). AreIndexed ys c.remove.new.self) cut
           (all_forget xs x c.args.place c.self.inside.index c.remove.new.self at read c.self.invariant.1
           c.remove.ensures),
