@@ -17,6 +17,7 @@ use Rattle.hg_discovery.specs.Answers.{IsRound}
 use Rattle.hg_discovery.specs.Rounds.{AreRounds, undecided}
 use Rattle.hg_discovery.proofs.ToldLemmas.{told_length, undecided_before, all_decided}
 use Rattle.hg_discovery.proofs.DrawLemmas.{sample_member, short_sample, done_is}
+use Rattle.hg_discovery.specs.Limits.{sample_size}
 
 -- ---- counting
 
@@ -70,12 +71,12 @@ one_less (Common ∷ ds) (suc k) d ne h = one_less ds k d ne h
 one_less (Missing ∷ ds) (suc k) d ne h = one_less ds k d ne h
 
 -- no two stand at one place
-abbrev AreApart : List PlacedNode → Type 0
-AreApart xs = (i j : ℕ) (x y : PlacedNode) → slice_get xs i ≡ Some x → slice_get xs j ≡ Some y → x.place ≡ y.place
+abbrev HaveOwnPlaces : List PlacedNode → Type 0
+HaveOwnPlaces xs = (i j : ℕ) (x y : PlacedNode) → slice_get xs i ≡ Some x → slice_get xs j ≡ Some y → x.place ≡ y.place
     → i ≡ j
 
 -- those who were asked about were undecided, and aren't any more
-decided_count : (xs : List PlacedNode) (old new : List Finding) → length new ≡ length old → AreApart xs
+decided_count : (xs : List PlacedNode) (old new : List Finding) → length new ≡ length old → HaveOwnPlaces xs
     → ((i : ℕ) (x : PlacedNode) → slice_get xs i ≡ Some x → Is old Undecided x.place)
     → ((i : ℕ) (x : PlacedNode) → slice_get xs i ≡ Some x → Is new Undecided x.place → ⊥)
     → ((k : ℕ) → Is new Undecided k → Is old Undecided k) → undecided new + length xs ≤ undecided old
@@ -138,29 +139,29 @@ append_once xs ys up_x up_y never i j x at_i at_j = elim (append_cases xs ys i x
   ]
 ]
 
-asked_apart : (s : Search) → IsSearch s → AreApart s.asked
+asked_apart : (s : Search) → IsSearch s → HaveOwnPlaces s.asked
 asked_apart s known i j x y at_x at_y e =
     let sample = known.sample in
     let all = sample.heads ++ sample.others in
     let placed_node_x = (sample_member s s.asked sample x (Contains-from_place s.asked i x at_x)).0 in
     let placed_node_y = (sample_member s s.asked sample y (Contains-from_place s.asked j y at_y)).0 in
     let same : x ≡ y = known.placed_nodes.apart x y placed_node_x placed_node_y e in
-    let in_x = (get-take all 200 i x (subst (λ zs. slice_get zs i ≡ Some x) sample.first at_x)).1 in
-    let in_y = (get-take all 200 j y (subst (λ zs. slice_get zs j ≡ Some y) sample.first at_y)).1 in
+    let in_x = (get-take all sample_size i x (subst (λ zs. slice_get zs i ≡ Some x) sample.first at_x)).1 in
+    let in_y = (get-take all sample_size j y (subst (λ zs. slice_get zs j ≡ Some y) sample.first at_y)).1 in
     append_once sample.heads sample.others sample.heads_are.0 sample.others_are.0
     (λ z h o. ((sample.others_are.1 z).0 o).1 ((sample.heads_are.1 z).0 h)) i j x in_x
     (subst (λ z. slice_get all j ≡ Some z) (sym same) in_y)
 
 -- ---- a round
 
--- 200 are decided, or all
+-- sample_size are decided, or all
 pub round_count : (s t : Search) (answers : List Bool) → IsSearch s → IsRound s answers t
-    → undecided t.decided ≤ undecided s.decided - 200
+    → undecided t.decided ≤ undecided s.decided - sample_size
 round_count s t answers known round =
     let len = told_length s.parents s.asked answers s.decided t.decided round.told in
     let within = undecided_before s.parents s.asked answers s.decided t.decided round.told in
     let decided = all_decided s.parents s.asked answers s.decided t.decided round.told in
-    elim (cases_order (length s.asked) 200) [
+    elim (cases_order (length s.asked) sample_size) [
       | inl e ↦ let c = count len within decided in omega (arith, c, e)
       | inr o ↦ elim o [
         | inl short ↦
@@ -189,7 +190,7 @@ done_count s known b is = let all = done_is s known b is in
     ((λ t. none_undecided s.decided (all.0 t)), (λ zero_is. all.1 (some_undecided s.decided zero_is)))
 
 pub rounds_count : (rounds : List (List Bool)) (s t : Search) → IsSearch s → AreRounds s rounds t
-    → undecided t.decided ≤ undecided s.decided - 200 * length rounds
+    → undecided t.decided ≤ undecided s.decided - sample_size * length rounds
 rounds_count [] s t known e = let same : undecided t.decided ≡ undecided s.decided =
     ap (λ (u : Search). undecided u.decided) e in omega (arith, same)
 rounds_count (answers ∷ rest) s t known run =

@@ -25,6 +25,7 @@ use Rattle.hg_discovery.specs.Search.{Search, Is, IsSo, IsHead, IsAscending, Lis
 use Rattle.hg_discovery.specs.Spread.{IsMarked, AreCovered, MarksPlace}
 use Rattle.hg_discovery.specs.Picking.{same_decided, is_decided, is_mark, is_picked}
 use Rattle.hg_discovery.proofs.UnderLemmas.{parent_under, child_on_way}
+use Rattle.hg_discovery.specs.Limits.{sample_size}
 
 -- ---- marks
 
@@ -323,20 +324,21 @@ module _ (s : Search) (so : Finding) (marks : List Bool) (order : IsInOrder s.pa
 pub sample_member : (s : Search) (xs : List PlacedNode) → IsSample s xs → (x : PlacedNode) → Contains xs x
     → IsSo s Undecided x
 sample_member s xs sample x h =
-    let all = Contains-take 200 (sample.heads ++ sample.others) x (subst (λ zs. Contains zs x) sample.first h) in
+    let all = Contains-take sample_size (sample.heads ++ sample.others) x
+    (subst (λ zs. Contains zs x) sample.first h) in
     elim (Contains-append_cases sample.heads sample.others x all) [
       | inl a ↦ ((sample.heads_are.1 x).0 a).0
       | inr b ↦ ((sample.others_are.1 x).0 b).0
     ]
 
 -- where the sample isn't full, nothing else is undecided
-pub short_sample : (s : Search) (xs : List PlacedNode) → IsSample s xs → length xs < 200 → (x : PlacedNode)
+pub short_sample : (s : Search) (xs : List PlacedNode) → IsSample s xs → length xs < sample_size → (x : PlacedNode)
     → IsSo s Undecided x
     → (Contains xs x → ⊥) → ⊥
 short_sample s xs sample short x so out =
     let all = sample.heads ++ sample.others in
-    let long : length xs ≡ min 200 (length all) = ap length sample.first ∙ length-take 200 all in
-    let whole : xs ≡ all = sample.first ∙ take_all 200 all (omega (arith, long, short)) in
+    let long : length xs ≡ min sample_size (length all) = ap length sample.first ∙ length-take sample_size all in
+    let whole : xs ≡ all = sample.first ∙ take_all sample_size all (omega (arith, long, short)) in
     let out_of_all : Contains all x → ⊥ = λ (h : Contains all x). out (subst (λ zs. Contains zs x) (sym whole) h) in
     let not_head : ¬ (IsHead s Undecided x) = λ (h : IsHead s Undecided x). out_of_all
     (Contains-append_left sample.heads sample.others x ((sample.heads_are.1 x).1 h)) in

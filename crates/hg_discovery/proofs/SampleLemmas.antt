@@ -18,10 +18,11 @@ use Rattle.hg_discovery.specs.Picking.{is_picked}
 use Rattle.hg_discovery.proofs.UnderLemmas.{three, not_both_uc, not_both_um, between}
 use Rattle.hg_discovery.proofs.DrawLemmas.{IsCoveredTo, IsCoveredTo-start, IsCoveredTo-so, IsCoveredTo-other}
 use Rattle.hg_discovery.proofs.DrawLemmas.{IsCoveredTo-end, MarksPlace-then, heads_are, others_are}
+use Rattle.hg_discovery.specs.Limits.{sample_size}
 
--- the first 200 of the heads and then of the others, by marks
+-- the first sample_size of the heads and then of the others, by marks
 abbrev pub drawn : List Finding → List Bool → List PlacedNode → List PlacedNode
-drawn ds marks xs = take 200 (filter (is_picked ds marks Undecided false) xs
+drawn ds marks xs = take sample_size (filter (is_picked ds marks Undecided false) xs
     ++ filter (is_picked ds marks Undecided true) xs)
 
 -- of placed nodes that ascend that is a sample

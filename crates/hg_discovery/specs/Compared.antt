@@ -18,6 +18,10 @@ pub record AreCompared (cs ds : List Contents) (x : Compared) : Type 0 where
   pub free : (j k : ℕ) (c d : Contents) → j < x.ours → k < x.theirs → slice_get cs j ≡ Some c → slice_get ds k ≡ Some d
       → node_of c ≡ node_of d → c ≡ d
 
+-- all of the first were compared with all of the second
+abbrev pub AreAllCompared : List Contents → List Contents → Compared → Type 0
+AreAllCompared cs ds x = (x.ours ≡ length cs) × (x.theirs ≡ length ds)
+
 -- what two replicas hold was compared so far
 abbrev pub WereCompared : KeptValue → KeptValue → Compared → Type 0
 WereCompared ours theirs x = AreCompared (changesets ours.replica.history) (changesets theirs.replica.history) x

@@ -11,3 +11,4 @@ pub mod Between
 pub mod Refusals
 pub mod Order
 pub mod Compared
+pub mod Limits

@@ -9,6 +9,7 @@ use Rattle.hg_discovery.specs.declared.finding.Finding.{Finding}
 use Rattle.hg_discovery.specs.declared.finding.Finding.TheVariants.{Undecided, Common, Missing}
 use Rattle.hg_discovery.specs.declared.finding.PlacedNode.{PlacedNode}
 use Rattle.hg_discovery.specs.Under.{IsParentAt, IsUnder, IsInOrder}
+use Rattle.hg_discovery.specs.Limits.{sample_size}
 
 -- placed nodes are the changesets that are asked about, with their places; a place without one is missing from the
 -- start
@@ -38,13 +39,13 @@ IsSo s d x = Contains s.placed_nodes x × Is s.decided d x.place
 abbrev pub IsHead : Search → Finding → PlacedNode → Type 0
 IsHead s d x = IsSo s d x × ((j : ℕ) → Is s.decided d j → IsUnder s.parents x.place j → j ≡ x.place)
 
--- the first 200 of the heads of the undecided ones and then of the others
+-- the first sample_size of the heads of the undecided ones and then of the others
 pub record IsSample (s : Search) (xs : List PlacedNode) : Type 0 where
   pub heads : List PlacedNode
   pub others : List PlacedNode
   pub heads_are : Lists (IsHead s Undecided) heads
   pub others_are : Lists (λ x. IsSo s Undecided x × ¬ (IsHead s Undecided x)) others
-  pub first : xs ≡ take 200 (heads ++ others)
+  pub first : xs ≡ take sample_size (heads ++ others)
 
 -- the ancestors of what is common are common, and the descendants of what is missing are missing
 pub record IsClosed (ps : List ParentPlaces) (ds : List Finding) : Type 0 where

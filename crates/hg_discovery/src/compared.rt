@@ -9,7 +9,7 @@ ghost use Rattle.hg_changeset.specs.Contents.{Contents};
 ghost use Rattle.hg_graph.specs.Graph.{Holds};
 ghost use Rattle.hg_graph.specs.Places.{IsOnlyAt};
 ghost use Rattle.hg_view.specs.Common.{AreFree, IsFree};
-ghost use Rattle.hg_discovery.specs.Compared.{AreCompared, AreFreeFrom};
+ghost use Rattle.hg_discovery.specs.Compared.{AreAllCompared, AreCompared, AreFreeFrom};
 
 use hg_changeset::{Changeset, Node};
 use hg_graph::Graph;
@@ -36,7 +36,7 @@ impl Compared {
         requires { AreCompared ours.now theirs.now self.old }
         ensures compared { AreCompared ours.now theirs.now self.new }
         ensures free { IsTrue result ↔ AreFree ours.now theirs.now }
-        ensures all { IsTrue result → (self.new.ours ≡ length ours.now) × (self.new.theirs ≡ length theirs.now) }
+        ensures all { IsTrue result → AreAllCompared ours.now theirs.now self.new }
         ensures none { ¬ (IsTrue result) → self.new ≡ self.old }
     {
         let are_free = are_free_from(ours, self.ours, theirs)
@@ -55,15 +55,15 @@ fn are_free_from(graph: &Graph, from: usize, other: &Graph) -> bool
     requires { from ≤ length graph.now }
     ensures { IsTrue result ↔ AreFreeFrom graph.now from other.now }
 {
-    let mut near = from;
+    let mut guess = from;
     for place in from..graph.len() {
         match graph.changeset_at(place) {
             Some(changeset) => {
-                let there = place_near(other, changeset.node(), near);
+                let there = place_from(other, changeset.node(), guess);
                 if !is_free_at(changeset, other, there) {
                     return false;
                 }
-                near = behind(there, near);
+                guess = behind(there, guess);
             }
             None => {}
         }
@@ -86,21 +86,21 @@ fn is_free_at(changeset: &Changeset, other: &Graph, there: Option<usize>) -> boo
     }
 }
 
-// Where the changeset with this id stands, which may be near.
-fn place_near(graph: &Graph, node: Node, near: usize) -> Option<usize>
+// Where the changeset with this id stands, which may be the place that is guessed.
+fn place_from(graph: &Graph, node: Node, guess: usize) -> Option<usize>
     ensures { MatchOption result (¬ (Holds graph.now node)) (IsOnlyAt graph.now node) }
 {
     graph.is_valid();
-    match graph.node_at(near) {
-        Some(held) if held == node => Some(near),
+    match graph.node_at(guess) {
+        Some(held) if held == node => Some(guess),
         _ => graph.place(node),
     }
 }
 
 // The place behind this one, if there is one.
-fn behind(place: Option<usize>, near: usize) -> usize {
+fn behind(place: Option<usize>, guess: usize) -> usize {
     match place {
         Some(place) => place.saturating_add(1),
-        None => near,
+        None => guess,
     }
 }

@@ -4,6 +4,7 @@ ghost use Rattle.hg_discovery.specs.Search.{IsSearch, nodes_of};
 ghost use Rattle.hg_discovery.specs.Answers.{AnswerAnswer};
 ghost use Rattle.hg_discovery.specs.Rounds.{undecided};
 ghost use Rattle.hg_discovery.specs.Start.{IsStart, AreCommonHeads};
+ghost use Rattle.hg_discovery.specs.Limits.{sample_size};
 
 use crate::children::{Children, children_of};
 use crate::draw::{common_heads, sample};
@@ -114,7 +115,7 @@ impl Discovery {
     /// there aren't as many answers as were asked for. A refusal changes nothing.
     pub fn answer(&mut self, answers: &[bool]) -> Result<(), DiscoveryError>
         ensures answer { AnswerAnswer self.old answers.now result self.new }
-        ensures fewer { OnOk result (undecided self.new.decided ≤ undecided self.old.decided - 200) }
+        ensures fewer { OnOk result (undecided self.new.decided ≤ undecided self.old.decided - sample_size) }
     {
         if answers.len() != self.asked.len() {
             return Err(DiscoveryError::WrongCount);

@@ -25,8 +25,7 @@ pub(crate) fn heads_by_walk(
     ensures { IfOk result
         (λ heads. AreHeadsInCommon asker.now.replica other.now.replica other.now.pins heads.items) }
 {
-    // They say that the replicas are valid, and that it can be told of each id whether it is served.
-    let _ = other.replica();
+    other.replica().is_valid();
     other.tells_what_is_served();
     let places = asker.common_heads(other)?;
     let found = placed_nodes_at(alloc, asker.replica().graph(), &places)?;

@@ -13,6 +13,7 @@ ghost use Rattle.hg_discovery.specs.Search.{Search, IsSearch};
 ghost use Rattle.hg_discovery.specs.Start.{IsStart};
 ghost use Rattle.hg_discovery.specs.Rounds.{Round, AreTrueRounds, AreKnownRounds, AreRounds, AreWithin};
 ghost use Rattle.hg_discovery.specs.Rounds.{IsCommon, undecided};
+ghost use Rattle.hg_discovery.specs.Limits.{sample_size};
 
 /// Where each yes was true when it was given, each common changeset is held by both sides, whatever either does between
 /// answers: both only grow, and hold no two changesets of one id.
@@ -40,5 +41,5 @@ pub fn what_is_common_is_what_is_served()
 /// rounds, rounded up.
 pub fn rounds_are_few()
     ensures { (s t : Search) (rounds : List (List Bool)) → IsSearch s → AreRounds s rounds t
-        → undecided t.decided ≤ undecided s.decided - 200 * length rounds }
+        → undecided t.decided ≤ undecided s.decided - sample_size * length rounds }
 {}

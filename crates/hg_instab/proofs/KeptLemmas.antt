@@ -11,7 +11,7 @@ use Rattle.hg_instab.specs.Changed.{Follows, IsChangedTo, IsNow}
 use Rattle.hg_instab.specs.declared.turn.Turn.{Turn}
 use Rattle.hg_instab.specs.Instabilities.{IsContentDivergent, InstabilitySets, AreInstabilities}
 use Rattle.hg_instab.specs.Near.{AreNearForks}
-use Rattle.hg_instab.specs.Turns.{IsThen, AreThen, AreTold}
+use Rattle.hg_instab.specs.Turns.{IsThen, AreThen, LeadTo}
 use Rattle.hg_instab.specs.declared.turns.Turns.{Turns}
 use Rattle.hg_instab.proofs.FollowsLemmas.{follows}
 use Rattle.hg_instab.proofs.SetLemmas.{along}
@@ -145,7 +145,7 @@ flip h = (h.1, h.0)
 
 -- each set is what its turn leaves, and that is what it is to have
 pub kept-then : (g : Content) (before after : InstabilitySets) (turns : Turns) → AreThen before turns after
-    → AreTold g before turns → AreInstabilities g after
+    → LeadTo g before turns → AreInstabilities g after
 kept-then g before after turns then told = record {
   obsolete = λ n. along (then.obsolete n) (told.obsolete n);
   orphan = λ n. along (then.orphan n) (told.orphan n);

@@ -117,11 +117,11 @@ module _ (f g : Content) (change : ChangeValue) (ms : List Fields) (near region 
   -- ---- outside the region
 
   -- near forks, and outside the region
-  abbrev IsKept : Node → Type 0
-  IsKept n = Contains near n × ¬ (Contains region n)
+  abbrev IsBeyond : Node → Type 0
+  IsBeyond n = Contains near n × ¬ (Contains region n)
 
-  kept-alike : AreAlikeOn IsKept f g
-  kept-alike = record {
+  beyond-alike : AreAlikeOn IsBeyond f g
+  beyond-alike = record {
     held = λ n kept. (
       λ h. let there = follows.above n h.0 h.1 in (there.0, there.1),
       λ h. elim (follows.held n h) [ inl old ↦ old | inr added ↦ absurd (kept.1 (is.added n added kept.0)) ],
@@ -141,8 +141,8 @@ module _ (f g : Content) (change : ChangeValue) (ms : List Fields) (near region 
   }
 
   -- what precedes what is kept is kept
-  kept-before : (p n : Node) → Precedes g IsAny p n → IsKept n → IsKept p
-  kept-before p n way kept =
+  beyond-before : (p n : Node) → Precedes g IsAny p n → IsBeyond n → IsBeyond p
+  beyond-before p n way kept =
       let out : ¬ (Contains region p) = λ so. kept.1 (so-forward g (Contains region) is.closed IsAny p n way so) in (
         elim (so-backward g IsNear near-closed IsAny p n way (inl kept.0)) [
           | inl so ↦ so
@@ -155,17 +155,17 @@ module _ (f g : Content) (change : ChangeValue) (ms : List Fields) (near region 
   precedes-after p n = precedes-along f g IsAny (λ k. Unit {0})
       (λ m k held at so. (marker-after f g change ms follows m held, tt)) p n tt
 
-  kept-several : (n : Node) → IsKept n → IsAfterSeveral f n ↔ IsAfterSeveral g n
-  kept-several n kept = (
+  beyond-several : (n : Node) → IsBeyond n → IsAfterSeveral f n ↔ IsAfterSeveral g n
+  beyond-several n kept = (
     λ h.
         let way = precedes-after h.0 n h.2 in
-        (h.0, several-alike IsKept f g kept-alike h.0 (kept-before h.0 n way kept) h.1, way),
+        (h.0, several-alike IsBeyond f g beyond-alike h.0 (beyond-before h.0 n way kept) h.1, way),
     λ h.
-        let before = kept-before h.0 n h.2 kept in
-        let back = alike-back IsKept f g kept-alike in (
+        let before = beyond-before h.0 n h.2 kept in
+        let back = alike-back IsBeyond f g beyond-alike in (
           h.0,
-          several-alike IsKept g f back h.0 before h.1,
-          (precedes-alike IsKept g f back IsAny h.0 n before h.2).0,
+          several-alike IsBeyond g f back h.0 before h.1,
+          (precedes-alike IsBeyond g f back IsAny h.0 n before h.2).0,
         ),
   )
 
@@ -179,10 +179,10 @@ module _ (f g : Content) (change : ChangeValue) (ms : List Fields) (near region 
   pub outside-alike : (n : Node) → ¬ (Contains region n) → IsAfterSeveral f n ↔ IsAfterSeveral g n
   outside-alike n out = (
     λ h. elim (among_or_not near n) [
-      | inl so ↦ (kept-several n (so, out)).0 h
+      | inl so ↦ (beyond-several n (so, out)).0 h
       | inr far ↦ absurd (not_near f (Contains near) forks n far h)
     ],
-    λ h. (kept-several n (several-near n out h, out)).1 h,
+    λ h. (beyond-several n (several-near n out h, out)).1 h,
   )
 
   -- ---- divergence

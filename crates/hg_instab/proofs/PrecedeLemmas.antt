@@ -1,5 +1,5 @@
 -- Walks over markers, in the words of contents.
-use Rattle.std.proofs.Common.{List, Contains, ◌↔◌, inl, inr, refl, sym, subst}
+use Rattle.std.proofs.Common.{List, Contains, ◌⊎◌, ◌↔◌, inl, inr, refl, sym, subst}
 use Rattle.hg_changeset.specs.declared.node.Node.{Node}
 use Rattle.hg_marker.specs.Fields.{Fields}
 use Rattle.hg_replica.specs.State.{ReplicaState}
@@ -28,6 +28,26 @@ pub precedes-predecessor : (f : Content) (Kind : Fields → Type 0) (p n : Node)
 precedes-predecessor f Kind p n (step {m = m} held kind at is) = (m, held, is)
 precedes-predecessor f Kind p n (precedes_further {m = m} held kind at r) = precedes-predecessor f Kind p
     m.predecessor r
+
+-- of the steps to something the last one, over a marker that rewrote to it what is so, or what comes after such an id
+pub precedes-last : (f : Content) (Kind : Fields → Type 0) (P : Node → Type 0) (n : Node)
+    → ((p : Node) × P p × Precedes f Kind p n)
+    ↔ ((m : Fields) × IsMarker f m × Kind m × Contains m.successors n
+    × (P m.predecessor ⊎ ((p : Node) × P p × Precedes f Kind p m.predecessor)))
+precedes-last f Kind P n = (λ h. last h.0 h.1 h.2, first)
+  where
+    last : (p : Node) → P p → Precedes f Kind p n → (m : Fields) × IsMarker f m × Kind m × Contains m.successors n
+        × (P m.predecessor ⊎ ((q : Node) × P q × Precedes f Kind q m.predecessor))
+    last p so (step {m = m} held kind at is) = (m, held, kind, at, inl (subst P (sym is) so))
+    last p so (precedes_further {m = m} held kind at r) = (m, held, kind, at, inr (p, so, r))
+
+    first : ((m : Fields) × IsMarker f m × Kind m × Contains m.successors n
+        × (P m.predecessor ⊎ ((p : Node) × P p × Precedes f Kind p m.predecessor)))
+        → (p : Node) × P p × Precedes f Kind p n
+    first h = elim h.4 [
+      | inl so ↦ (h.0.predecessor, so, step h.1 h.2 h.3 refl)
+      | inr far ↦ (far.0, far.1, precedes_further h.1 h.2 h.3 far.2)
+    ]
 
 -- steps over markers of the one content are steps over markers of the other, as long as they lead over what is so
 pub precedes-along : (f g : Content) (Kind : Fields → Type 0) (P : Node → Type 0)

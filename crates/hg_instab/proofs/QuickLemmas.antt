@@ -22,7 +22,7 @@ use Rattle.hg_instab.specs.declared.quick.Turning.TheVariants.{Nothing, NewlyExt
 use Rattle.hg_instab.specs.Instabilities.{IsContentDivergent, InstabilitySets, AreInstabilities}
 use Rattle.hg_instab.specs.Local.{IsParentOf, StandsUnstably, HoldsNothing}
 use Rattle.hg_instab.specs.Near.{IsAfterPublic, IsRegion}
-use Rattle.hg_instab.specs.Quick.{IsApart, IsLeaf, IsStable, AreStable, AreUnchanged, IsRewrittenLeaf}
+use Rattle.hg_instab.specs.Quick.{IsInNoSet, IsLeaf, IsStable, AreStable, AreUnchanged, IsRewrittenLeaf}
 use Rattle.hg_instab.specs.Region.{IsTouched, AreStarts}
 use Rattle.hg_instab.specs.Turns.{GainsExtinct, TurnsTo}
 use Rattle.hg_instab.proofs.AddedLemmas as touched
@@ -45,14 +45,14 @@ record IsGone (f g : Content) (sets : InstabilitySets) (n : Node) : Type 0 where
   leaf : IsLeaf g n
   rewritten : IsPredecessor g n
   current : IsCurrent f n
-  apart : IsApart sets n
+  apart : IsInNoSet sets n
 
 module _ (s t : ReplicaState) (change : ChangeValue) (v : IsValid s) (w : IsValid t)
     (follows : Follows (content_of s) (content_of t) change t.markers) (sets : InstabilitySets)
     (at : AreInstabilities (content_of s) sets) (moved : List Node) (IsNew : Node → Type 0)
     (new-or : (n : Node) → IsNew n ⊎ (¬ (IsNew n)))
     (seeded : (n : Node) → IsSeed t.markers change n → Contains moved n ⊎ IsNew n)
-    (still : (n : Node) → Contains moved n → IsStable (content_of t) sets n × IsApart sets n)
+    (still : (n : Node) → Contains moved n → IsStable (content_of t) sets n × IsInNoSet sets n)
     (gone : (n : Node) → IsNew n → IsGone (content_of s) (content_of t) sets n) where
   abbrev f : Content
   f = content_of s
@@ -72,7 +72,7 @@ module _ (s t : ReplicaState) (change : ChangeValue) (v : IsValid s) (w : IsVali
     ]
   ]
 
-  apart-or : (n : Node) → IsApart sets n ⊎ IsOut n
+  apart-or : (n : Node) → IsInNoSet sets n ⊎ IsOut n
   apart-or n = elim (side n) [
     | inl moves ↦ inl (still n moves).1
     | inr other ↦ elim other [ inl new ↦ inl (gone n new).apart | inr out ↦ inr out ]
@@ -300,7 +300,7 @@ module _ (s t : ReplicaState) (change : ChangeValue) (v : IsValid t) (is : IsCha
   moved-in n (inr low) = Contains-append_right change.added change.lowered n low
 
   -- what was added was in no set, as it wasn't held
-  added-apart : (n : Node) → Contains change.added n → IsApart sets n
+  added-apart : (n : Node) → Contains change.added n → IsInNoSet sets n
   added-apart n added =
       let not_held = touched.not_held-before s t change v is n added in
       record {
@@ -310,7 +310,7 @@ module _ (s t : ReplicaState) (change : ChangeValue) (v : IsValid t) (is : IsCha
         content_divergent = λ h. let d = (at.content_divergent n).0 h in not_held (d.0.0.0, d.0.0.1);
       }
 
-  still : (n : Node) → Contains moved n → IsStable After sets n × IsApart sets n
+  still : (n : Node) → Contains moved n → IsStable After sets n × IsInNoSet sets n
   still n moves = elim (Contains-append_cases change.added change.lowered n moves)
       [ inl added ↦ ((stable n added).0, added-apart n added) | inr low ↦ unchanged n low ]
 

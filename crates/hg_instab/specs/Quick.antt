@@ -12,7 +12,7 @@ use Rattle.hg_instab.specs.Region.{IsOneNear}
 use Rattle.hg_instab.specs.Walk.{IsFork}
 
 -- it is in none of the sets of what is unstable or suspended, nor after something public
-pub record IsApart (sets : InstabilitySets) (n : Node) : Type 0 where
+pub record IsInNoSet (sets : InstabilitySets) (n : Node) : Type 0 where
   pub orphan : ¬ (Contains sets.orphan n)
   pub suspended : ¬ (Contains sets.suspended n)
   pub after_public : ¬ (Contains sets.after_public n)
@@ -42,12 +42,12 @@ AreStable g sets added = (n : Node) → Contains added n → IsStable g sets n �
 
 -- what was lowered is stable, and was apart from what is unstable
 abbrev pub AreUnchanged : Content → InstabilitySets → List Node → Type 0
-AreUnchanged g sets lowered = (n : Node) → Contains lowered n → IsStable g sets n × IsApart sets n
+AreUnchanged g sets lowered = (n : Node) → Contains lowered n → IsStable g sets n × IsInNoSet sets n
 
 -- what this marker rewrote, and no other did, is a leaf that was apart from what is unstable; and the marker names
 -- nothing that was near forks
 pub record IsRewrittenLeaf (t : ReplicaState) (sets : InstabilitySets) (m : Fields) : Type 0 where
   pub leaf : IsLeaf (content_of t) m.predecessor
   pub once : ¬ (IsFork t.markers m.predecessor)
-  pub apart : IsApart sets m.predecessor
+  pub apart : IsInNoSet sets m.predecessor
   pub away : ¬ (IsOneNear (IsNamed m) sets.near_forks)

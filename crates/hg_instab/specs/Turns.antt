@@ -97,7 +97,7 @@ pub record IsDivergenceTold (g : Content) (sets : InstabilitySets) (turns : Turn
   pub near_forks : AreNearForks g (IsThen sets.near_forks turns.1)
 
 -- what each turn leaves is what the set of g is to have
-pub record AreTold (g : Content) (sets : InstabilitySets) (turns : Turns) : Type 0 where
+pub record LeadTo (g : Content) (sets : InstabilitySets) (turns : Turns) : Type 0 where
   pub obsolete : (n : Node) → IsThen sets.obsolete turns.obsolete n ↔ IsObsolete g n
   pub orphan : (n : Node) → IsThen sets.orphan turns.orphan n ↔ IsOrphan g n
   pub suspended : (n : Node) → IsThen sets.suspended turns.suspended n ↔ IsSuspended g n

@@ -13,7 +13,7 @@ ghost use Rattle.hg_instab.specs.Changed.{Follows, AreSeeded, IsNow};
 ghost use Rattle.hg_instab.specs.Local.{HoldsNothing};
 ghost use Rattle.hg_instab.specs.Settling.{IsSoAt, IsAtEach};
 
-use crate::holders::Holders;
+use crate::child_hints::ChildHints;
 use crate::query::is_obsolete_at;
 use crate::settling::{Kind, settle_all};
 use crate::turned::has_now;
@@ -29,7 +29,7 @@ pub(crate) fn turned_extinct(
     alloc: Global,
     replica: &Replica,
     extinct: &BTreeSet<Node>,
-    holders: &mut Holders,
+    hints: &mut ChildHints,
     seeds: &[usize],
 ) -> Result<BTreeSet<Node>, AllocError>
     requires { (k : ℕ) → Contains seeds.now k → k < length (changesets replica.now.history) }
@@ -41,14 +41,14 @@ pub(crate) fn turned_extinct(
 {
     let graph = replica.graph();
     let waiting = waiting_from(alloc, graph, seeds, Beside::Parents, seeds)?;
-    settle_all(alloc, replica, Kind::Extinct, extinct, holders, waiting)
+    settle_all(alloc, replica, Kind::Extinct, extinct, hints, waiting)
 }
 
 // Whether it is obsolete, and each child is extinct now.
 pub(crate) fn is_extinct_now(
     replica: &Replica,
     extinct: &BTreeSet<Node>,
-    holders: &mut Holders,
+    hints: &mut ChildHints,
     turned: &BTreeSet<Node>,
     place: usize,
     node: Node,
@@ -61,7 +61,7 @@ pub(crate) fn is_extinct_now(
         && are_extinct(
             replica,
             extinct,
-            holders,
+            hints,
             turned,
             place,
             replica.graph().children(place),
@@ -73,7 +73,7 @@ pub(crate) fn is_extinct_now(
 fn are_extinct(
     replica: &Replica,
     extinct: &BTreeSet<Node>,
-    holders: &mut Holders,
+    hints: &mut ChildHints,
     turned: &BTreeSet<Node>,
     place: usize,
     places: &[usize],
@@ -86,10 +86,10 @@ fn are_extinct(
         extinct,
         turned,
         places,
-        holders.first(place, places.len()),
+        hints.first(place, places.len()),
     ) {
         Some(index) => {
-            holders.note(place, index);
+            hints.note(place, index);
             false
         }
         None => true,

@@ -4,12 +4,12 @@ ghost use Rattle.hg_replica.specs.State.{ReplicaState};
 ghost use Rattle.hg_replica.specs.Content.{content_of};
 ghost use Rattle.hg_instab.specs.Changed.{IsChangedTo};
 ghost use Rattle.hg_instab.specs.Instabilities.{AreInstabilities, InstabilitySets};
-ghost use Rattle.hg_instab.specs.Turns.{AreTurns, AreStages, HaveCome, AreThen, AreTold, GainsExtinct};
+ghost use Rattle.hg_instab.specs.Turns.{AreTurns, AreStages, HaveCome, AreThen, LeadTo, GainsExtinct};
 
 use crate::among::{current_among, obsolete_nodes, outside, set_of};
+use crate::child_hints::ChildHints;
 use crate::divergence::divergent_within;
 use crate::first::{after_public_ids, near_fork_ids};
-use crate::holders::Holders;
 use crate::orphans::{orphan_nodes, suspended_nodes};
 use crate::quick::{Turning, quick_turning};
 use crate::turn::{put, take_back};
@@ -33,7 +33,7 @@ pub struct Instabilities {
     content_divergent: BTreeSet<Node>,
     after_public: BTreeSet<Node>,
     near_forks: BTreeSet<Node>,
-    holders: Holders,
+    hints: ChildHints,
 }
 
 // Whoever owns them calls this once, and is proved without a look at each set.
@@ -49,7 +49,7 @@ impl Drop for Instabilities {
             content_divergent: _,
             after_public: _,
             near_forks: _,
-            holders: _,
+            hints: _,
         } = self;
     }
 }
@@ -95,7 +95,7 @@ impl Instabilities {
             content_divergent: set_of(alloc, content_divergent)?,
             after_public: set_of(alloc, after_public)?,
             near_forks: set_of(alloc, near_forks)?,
-            holders: Holders::new(alloc),
+            hints: ChildHints::new(alloc),
         })
     }
 
@@ -113,7 +113,7 @@ impl Instabilities {
             content_divergent: self.content_divergent.clone()?,
             after_public: self.after_public.clone()?,
             near_forks: self.near_forks.clone()?,
-            holders: Holders::new(self.alloc),
+            hints: ChildHints::new(self.alloc),
         })
     }
 
@@ -145,12 +145,12 @@ impl Instabilities {
     fn asked(&mut self, replica: &Replica, change: &Change) -> Result<Turns, AllocError>
         ensures turns { IfOk result (AreTurns self.old) }
         ensures told { IfOk result (λ turns. (s : ReplicaState) → IsChangedTo s change.now replica.now
-            → AreInstabilities (content_of s) self.old → AreTold (content_of replica.now) self.old turns) }
+            → AreInstabilities (content_of s) self.old → LeadTo (content_of replica.now) self.old turns) }
         ensures unchanged { self.new ≡ self.old }
     {
-        let mut holders = mem::replace(&mut self.holders, Holders::new(self.alloc));
-        let turns = Turns::asked(self.alloc, self, &mut holders, replica, change);
-        self.holders = holders;
+        let mut hints = mem::replace(&mut self.hints, ChildHints::new(self.alloc));
+        let turns = Turns::asked(self.alloc, self, &mut hints, replica, change);
+        self.hints = hints;
         turns
     }
 

@@ -2,10 +2,10 @@
 ghost use Rattle.std.specs.Prelude.{◌↔◌};
 ghost use Rattle.hg_changeset.specs.declared.node.Node.{Node};
 ghost use Rattle.hg_replica.specs.State.{ReplicaState, IsValid, IsSameState};
-ghost use Rattle.hg_replica.specs.Content.{content_of};
+ghost use Rattle.hg_replica.specs.Content.{Content, content_of};
 ghost use Rattle.hg_replica.specs.Evolution.{IsObsolete, IsOrphan, IsSuspended, IsExtinct, IsPhaseDivergent};
 ghost use Rattle.hg_instab.specs.Instabilities.{IsContentDivergent};
-ghost use Rattle.hg_instab.specs.Local.{StandsUnstably, HoldsNothing};
+ghost use Rattle.hg_instab.specs.Local.{StandsUnstably, HoldsNothing, ComesFromPublic, ComesFromSeveral};
 
 /// States that are below each other have the same instabilities, in whatever order each keeps what it holds.
 pub fn states_of_one_content_have_the_same_instabilities()
@@ -30,4 +30,13 @@ pub fn neighbours_decide_what_is_orphan_and_extinct()
         → (IsOrphan (content_of s) n ↔ StandsUnstably (content_of s) (IsOrphan (content_of s)) n) }
     ensures extinct { (s : ReplicaState) (n : Node) → IsValid s
         → (IsExtinct (content_of s) n ↔ HoldsNothing (content_of s) (IsExtinct (content_of s)) n) }
+{}
+
+/// The markers that rewrote something to it decide: a changeset that is neither public nor obsolete is phase-divergent
+/// exactly where a marker that isn't bumpedfix rewrote to it what is public, or comes after something public over such
+/// markers; and it is content-divergent exactly where a marker rewrote to it what has several successors sets or is
+/// overfull, or comes after such an id.
+pub fn predecessors_decide_what_is_divergent()
+    ensures phase_divergent { (f : Content) (n : Node) → IsPhaseDivergent f n ↔ ComesFromPublic f n }
+    ensures content_divergent { (f : Content) (n : Node) → IsContentDivergent f n ↔ ComesFromSeveral f n }
 {}

@@ -32,7 +32,7 @@
 //! Kept from change to change: `instabilities`, the sets; `turns`, what a change turns in each; `quick`, the same by a
 //! few look-ups where these tell; `turn`, what comes to one set and goes from it. What else is asked: `seeds`, the ids
 //! that a change touched; `orphan_walk` and `extinct_walk`, by `settling`, which asks at places in the graph's order,
-//! `waiting`, the places that are still to be asked, `turned`, nodes whose answers differ, and `holders`, with which
+//! `waiting`, the places that are still to be asked, `turned`, nodes whose answers differ, and `hints`, with which
 //! child a question begins; `after_public`, ids that newly come after something public; `near`, the region of ids that
 //! is asked again near forks, and `amend`, amends that need none.
 #![tactic(auto)]
@@ -40,10 +40,10 @@
 mod after_public;
 mod amend;
 mod among;
+mod child_hints;
 mod divergence;
 mod extinct_walk;
 mod first;
-mod holders;
 mod instabilities;
 mod laws;
 mod near;
@@ -61,6 +61,7 @@ mod walk;
 
 pub use instabilities::Instabilities;
 pub use laws::{
-    neighbours_decide_what_is_orphan_and_extinct, states_of_one_content_have_the_same_instabilities,
+    neighbours_decide_what_is_orphan_and_extinct, predecessors_decide_what_is_divergent,
+    states_of_one_content_have_the_same_instabilities,
 };
 pub use query::{has_phase, has_phase_at, is_mutable, is_obsolete, is_obsolete_at};

@@ -12,7 +12,7 @@ ghost use Rattle.hg_replica.specs.Evolution.{IsObsolete, IsOrphan};
 ghost use Rattle.hg_instab.specs.Changed.{Follows, AreSeeded, IsNow};
 ghost use Rattle.hg_instab.specs.Local.{IsParentOf, StandsUnstably};
 
-use crate::holders::Holders;
+use crate::child_hints::ChildHints;
 use crate::query::{is_current, is_obsolete_at};
 use crate::settling::{Kind, settle_all};
 use crate::turned::has_now;
@@ -49,7 +49,7 @@ pub(crate) fn turned_orphans(
         replica,
         Kind::Orphan,
         orphan,
-        &mut Holders::new(alloc),
+        &mut ChildHints::new(alloc),
         waiting,
     )
 }

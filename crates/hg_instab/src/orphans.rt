@@ -1,4 +1,4 @@
-//! What stands on obsolete changesets, and what is kept by that.
+//! The orphans, and the suspended changesets, which orphans keep from being hidden.
 ghost use Rattle.std.specs.Prelude.{◌↔◌, Contains, IfOk};
 ghost use Rattle.hg_changeset.specs.declared.node.Node.{Node};
 ghost use Rattle.hg_replica.specs.Content.{content_of};

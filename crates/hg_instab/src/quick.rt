@@ -11,7 +11,7 @@ ghost use Rattle.hg_replica.specs.Content.{content_of};
 ghost use Rattle.hg_instab.specs.Amend.{IsOnlyFresh};
 ghost use Rattle.hg_instab.specs.Changed.{IsChangedTo};
 ghost use Rattle.hg_instab.specs.Instabilities.{AreInstabilities};
-ghost use Rattle.hg_instab.specs.Quick.{IsApart, IsLeaf, StandsStably, IsStable, IsAway, AreStable};
+ghost use Rattle.hg_instab.specs.Quick.{IsInNoSet, IsLeaf, StandsStably, IsStable, IsAway, AreStable};
 ghost use Rattle.hg_instab.specs.Quick.{AreUnchanged, IsRewrittenLeaf};
 ghost use Rattle.hg_instab.specs.Turns.{TurnsTo};
 
@@ -162,9 +162,9 @@ fn are_unchanged(replica: &Replica, sets: &Instabilities, lowered: &[Node]) -> b
 
 // Whether the node is so.
 fn is_unchanged(replica: &Replica, sets: &Instabilities, node: Node) -> bool
-    ensures { IsTrue result → IsStable (content_of replica.now) sets.now node × IsApart sets.now node }
+    ensures { IsTrue result → IsStable (content_of replica.now) sets.now node × IsInNoSet sets.now node }
 {
-    if !is_apart(sets, node) {
+    if !is_in_no_set(sets, node) {
         return false;
     }
     match replica.graph().place(node) {
@@ -174,8 +174,8 @@ fn is_unchanged(replica: &Replica, sets: &Instabilities, node: Node) -> bool
 }
 
 // Whether it is in none of the sets of what is unstable or suspended, nor after something public.
-fn is_apart(sets: &Instabilities, node: Node) -> bool
-    ensures { IsTrue result → IsApart sets.now node }
+fn is_in_no_set(sets: &Instabilities, node: Node) -> bool
+    ensures { IsTrue result → IsInNoSet sets.now node }
 {
     is_missing(sets.orphan(), node)
         && is_missing(sets.suspended(), node)
@@ -196,7 +196,7 @@ fn is_rewritten_leaf(replica: &Replica, sets: &Instabilities, marker: &Marker, p
     if !is_leaf(replica, place, node) || is_fork(replica.store(), node) {
         return false;
     }
-    is_apart(sets, node)
+    is_in_no_set(sets, node)
 }
 
 // Whether it isn't public, and nothing stands on it.

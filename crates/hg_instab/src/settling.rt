@@ -11,8 +11,8 @@ ghost use Rattle.hg_replica.specs.Content.{content_of};
 ghost use Rattle.hg_instab.specs.Changed.{IsNow};
 ghost use Rattle.hg_instab.specs.Settling.{IsSoBy, beside_of, TakesNext, IsSettling, SettlesAt};
 
+use crate::child_hints::ChildHints;
 use crate::extinct_walk::is_extinct_now;
-use crate::holders::Holders;
 use crate::orphan_walk::is_orphan_now;
 use crate::turned::{has_now, turn};
 use crate::waiting::{Beside, wait_beside_place};
@@ -35,7 +35,7 @@ pub(crate) fn settle_all(
     replica: &Replica,
     kind: Kind,
     set: &BTreeSet<Node>,
-    holders: &mut Holders,
+    hints: &mut ChildHints,
     starts: PlaceQueue,
 ) -> Result<BTreeSet<Node>, AllocError>
     requires { (k : ℕ) → Contains starts k → k < length (changesets replica.now.history) }
@@ -45,15 +45,7 @@ pub(crate) fn settle_all(
     let mut turned = BTreeSet::new(alloc);
     let mut waiting = starts;
     while let Some(place) = take_next(kind, &mut waiting) {
-        settle_at(
-            replica,
-            kind,
-            set,
-            holders,
-            &mut turned,
-            &mut waiting,
-            place,
-        )?;
+        settle_at(replica, kind, set, hints, &mut turned, &mut waiting, place)?;
     }
     Ok(turned)
 }
@@ -73,7 +65,7 @@ fn settle_at(
     replica: &Replica,
     kind: Kind,
     set: &BTreeSet<Node>,
-    holders: &mut Holders,
+    hints: &mut ChildHints,
     turned: &mut BTreeSet<Node>,
     waiting: &mut PlaceQueue,
     place: usize,
@@ -86,7 +78,7 @@ fn settle_at(
     let graph = replica.graph();
     match graph.node_at(place) {
         Some(node) => {
-            if is_so_now(replica, kind, set, holders, turned, place, node)
+            if is_so_now(replica, kind, set, hints, turned, place, node)
                 == has_now(set, turned, node)
             {
                 return Ok(());
@@ -103,7 +95,7 @@ fn is_so_now(
     replica: &Replica,
     kind: Kind,
     set: &BTreeSet<Node>,
-    holders: &mut Holders,
+    hints: &mut ChildHints,
     turned: &BTreeSet<Node>,
     place: usize,
     node: Node,
@@ -113,7 +105,7 @@ fn is_so_now(
 {
     match kind {
         Kind::Orphan => is_orphan_now(replica, set, turned, place, node),
-        Kind::Extinct => is_extinct_now(replica, set, holders, turned, place, node),
+        Kind::Extinct => is_extinct_now(replica, set, hints, turned, place, node),
     }
 }
 

@@ -9,15 +9,15 @@ ghost use Rattle.hg_replica.specs.Evolution.{IsObsolete, IsCurrent, IsOrphan};
 ghost use Rattle.hg_instab.specs.Changed.{Follows, IsChangedTo, IsSeed, AreSeeded, IsNow};
 ghost use Rattle.hg_instab.specs.Instabilities.{AreInstabilities, IsContentDivergent};
 ghost use Rattle.hg_instab.specs.Near.{IsClosed};
-ghost use Rattle.hg_instab.specs.Turns.{AreTurns, AreTold, IsTurn, IsThen};
+ghost use Rattle.hg_instab.specs.Turns.{AreTurns, LeadTo, IsTurn, IsThen};
 ghost use Rattle.hg_instab.specs.Turns.{AreDivergenceTurns, IsDivergenceTold};
 
 use crate::after_public::newly_after_public;
 use crate::amend::{amend_of, turns_by_amend};
 use crate::among::{among, has, list_of, obsolete_among, set_of};
+use crate::child_hints::ChildHints;
 use crate::divergence::divergent_within;
 use crate::extinct_walk::turned_extinct;
-use crate::holders::Holders;
 use crate::instabilities::Instabilities;
 use crate::near::region;
 use crate::orphan_walk::turned_orphans;
@@ -63,13 +63,13 @@ impl Turns {
     pub(crate) fn asked(
         alloc: Global,
         sets: &Instabilities,
-        holders: &mut Holders,
+        hints: &mut ChildHints,
         replica: &Replica,
         change: &Change,
     ) -> Result<Turns, AllocError>
         ensures turns { IfOk result (AreTurns sets.now) }
         ensures told { IfOk result (λ turns. (s : ReplicaState) → IsChangedTo s change.now replica.now
-            → AreInstabilities (content_of s) sets.now → AreTold (content_of replica.now) sets.now turns) }
+            → AreInstabilities (content_of s) sets.now → LeadTo (content_of replica.now) sets.now turns) }
     {
         replica.is_valid();
         let touched = seeds(alloc, replica, change)?;
@@ -77,7 +77,7 @@ impl Turns {
         let met = newly_after_public(alloc, replica, change, sets.after_public())?;
         let now = obsolete_among(alloc, replica, seeds)?;
         let places = replica.graph().places_of(seeds)?;
-        let held = turned_extinct(alloc, replica, sets.extinct(), holders, &places)?;
+        let held = turned_extinct(alloc, replica, sets.extinct(), hints, &places)?;
         let extinct = Turn::of(alloc, sets.extinct(), &held)?;
         let suspended = suspended_turn(alloc, replica, sets, seeds, &now, &held)?;
         let obsolete = Turn::to(alloc, sets.obsolete(), seeds, now)?;
@@ -143,14 +143,14 @@ fn suspended_turn(
 {
     let mut kept = list_of(alloc, turned)?;
     kept.extend_from_slice(obsolete)?;
-    let now = still_kept(alloc, replica, sets.extinct(), turned, &kept)?;
+    let now = suspended_still(alloc, replica, sets.extinct(), turned, &kept)?;
     let mut nodes = list_of(alloc, turned)?;
     nodes.extend_from_slice(seeds)?;
     Turn::to(alloc, sets.suspended(), &nodes, now)
 }
 
 // Those of the nodes that are obsolete and not extinct now.
-fn still_kept(
+fn suspended_still(
     alloc: Global,
     replica: &Replica,
     extinct: &BTreeSet<Node>,
@@ -166,11 +166,16 @@ fn still_kept(
         |node|
             ensures { IsTrue result ↔ (IsObsolete (content_of replica.entry.now) node
                 × ¬ (IsNow extinct.entry.now.keys turned.entry.now.keys node)) }
-        { is_kept(replica, extinct, turned, node) },
+        { is_suspended_now(replica, extinct, turned, node) },
     )
 }
 
-fn is_kept(replica: &Replica, extinct: &BTreeSet<Node>, turned: &BTreeSet<Node>, node: Node) -> bool
+fn is_suspended_now(
+    replica: &Replica,
+    extinct: &BTreeSet<Node>,
+    turned: &BTreeSet<Node>,
+    node: Node,
+) -> bool
     ensures { IsTrue result ↔ (IsObsolete (content_of replica.now) node
         × ¬ (IsNow extinct.now.keys turned.now.keys node)) }
 {

@@ -36,18 +36,18 @@ use Rattle.hg_message.proofs.FieldFaultLemmas.{refusal, unless, own, own_told, o
 
 -- ---- reading from a field on, as far as the fault
 
-abbrev Told : Type 0
-Told = List ℕ → Option MessageFault
+abbrev FaultIn : Type 0
+FaultIn = List ℕ → Option MessageFault
 
 -- the field at the front of the rest of so many bytes, and then what its bytes lead to
-abbrev field_then : ℕ → Field → (List ℕ → Told) → Told
+abbrev field_then : ℕ → Field → (List ℕ → FaultIn) → FaultIn
 field_then total field k rest =
     cond (ltb (length rest) (width field)) (Some (Truncated (total - length rest)))
     (option_or (own field (total - length rest) (take (width field) rest))
     (k (take (width field) rest) (drop (width field) rest)))
 
 -- what is told from a field on is the fault of the field after whole ones
-record Explains (total : ℕ) (field : Field) (told : Told) : Type 0 where
+record Explains (total : ℕ) (field : Field) (told : FaultIn) : Type 0 where
   found : (rest : List ℕ) (f : MessageFault) → IsBytes rest → length rest ≤ total → told rest ≡ Some f
       → (fields : List (List ℕ)) × FaultAfter fields field (total - length rest) rest f
   so : (fields : List (List ℕ)) (rest : List ℕ) (f : MessageFault) → IsBytes rest → length rest ≤ total
@@ -57,7 +57,7 @@ IsBytes-front : (front rest : List ℕ) → IsBytes (front ++ rest) → IsBytes 
 IsBytes-front front rest fits = subst IsBytes (take_at front rest (length front) refl)
     (IsBytes-take (length front) (front ++ rest) fits)
 
-module _ (total : ℕ) (field : Field) (k : List ℕ → Told) where
+module _ (total : ℕ) (field : Field) (k : List ℕ → FaultIn) where
   cut_told : (rest : List ℕ) → length rest < width field → field_then total field k rest ≡ Some
       (Truncated (total - length rest))
   cut_told rest lt = rw (lt-ltb (length rest) (width field) lt) refl
@@ -174,7 +174,7 @@ module _ (total : ℕ) (field : Field) (k : List ℕ → Told) where
 
 -- ---- the fields, one after the other
 
-abbrev end_told : Told
+abbrev end_told : FaultIn
 end_told rest = unless (eqb (length rest) 0) Trailing
 
 followed : (b : ℕ) (rest : List ℕ) → end_told (b ∷ rest) ≡ Some Trailing
@@ -197,55 +197,55 @@ end_so total ([] ∷ fields) place rest f h = ap end_told h.1.parts
 end_so total ((b ∷ bytes) ∷ fields) place rest f h = absurd (omega (arith, h.0.0))
 
 module _ (total : ℕ) where
-  abbrev store_then : ℕ → Told
+  abbrev store_then : ℕ → FaultIn
   store_then len = field_then total (Store len) (λ _. end_told)
 
-  abbrev bounds_then : ℕ → Told
+  abbrev bounds_then : ℕ → FaultIn
   bounds_then zero = field_then total StoreLength (λ bytes. store_then (value bytes))
   bounds_then (suc after) = field_then total (PhaseNumber after)
       (λ _. field_then total (BoundNode after) (λ _. bounds_then after))
 
-  abbrev entries_then : Told
+  abbrev entries_then : FaultIn
   entries_then = field_then total Entries (λ bytes. bounds_then (value bytes))
 
   -- one record from each of its fields on, and then what it leads to
-  abbrev text_then : ℕ → ℕ → Told → Node → Node → Node → ℕ → Told
+  abbrev text_then : ℕ → ℕ → FaultIn → Node → Node → Node → ℕ → FaultIn
   text_then index after k n p q len = field_then total (Text index after n p q len) (λ _. k)
 
-  abbrev length_then : ℕ → ℕ → Told → Node → Node → Node → Told
+  abbrev length_then : ℕ → ℕ → FaultIn → Node → Node → Node → FaultIn
   length_then index after k n p q = field_then total (TextLength index after n p q)
       (λ len. text_then index after k n p q (value len))
 
-  abbrev second_then : ℕ → ℕ → Told → Node → Node → Told
+  abbrev second_then : ℕ → ℕ → FaultIn → Node → Node → FaultIn
   second_then index after k n p = field_then total (SecondParent index after n p)
       (λ q. length_then index after k n p (node_in q))
 
-  abbrev first_then : ℕ → ℕ → Told → Node → Told
+  abbrev first_then : ℕ → ℕ → FaultIn → Node → FaultIn
   first_then index after k n = field_then total (FirstParent index after n)
       (λ p. second_then index after k n (node_in p))
 
-  abbrev record_then : ℕ → ℕ → Told → Told
+  abbrev record_then : ℕ → ℕ → FaultIn → FaultIn
   record_then index after k = field_then total (Id index after) (λ n. first_then index after k (node_in n))
 
-  abbrev records_then : ℕ → ℕ → Told
+  abbrev records_then : ℕ → ℕ → FaultIn
   records_then index zero = entries_then
   records_then index (suc after) = record_then index after (records_then (suc index) after)
 
-  abbrev count_then : Told
+  abbrev count_then : FaultIn
   count_then = field_then total Count (λ bytes. records_then 0 (value bytes))
 
-  abbrev scope_then : Told
+  abbrev scope_then : FaultIn
   scope_then = field_then total ScopeNumber (λ _. count_then)
 
   -- behind a version, which is the first one or not
-  abbrev scope_by : Bool → Told
+  abbrev scope_by : Bool → FaultIn
   scope_by true = count_then
   scope_by false = scope_then
 
-  abbrev version_then : Told
+  abbrev version_then : FaultIn
   version_then = field_then total Version (λ bytes. scope_by (eqb (get_or bytes 0 0) 1))
 
-  abbrev all_then : Told
+  abbrev all_then : FaultIn
   all_then = field_then total Magic (λ _. version_then)
 
   explains_end : Explains total End end_told
@@ -269,7 +269,7 @@ module _ (total : ℕ) where
   explains_entries = explains_field total Entries (λ bytes. bounds_then (value bytes)) (λ e. cc)
       (λ bytes. explains_bounds (value bytes))
 
-  module _ (index after : ℕ) (k : Told) (others : Explains total (record_or_entries (suc index) after) k) where
+  module _ (index after : ℕ) (k : FaultIn) (others : Explains total (record_or_entries (suc index) after) k) where
     explains_text : (n p q : Node) (len : ℕ) → Explains total (Text index after n p q len)
         (text_then index after k n p q len)
     explains_text n p q len = explains_field total (Text index after n p q len) (λ _. k) (λ e. cc) (λ _. others)
@@ -339,7 +339,7 @@ module _ {B : Type 0} (probe : Result (B × List ℕ) MessageFault → Option Me
 
   -- a field that takes so many bytes
   field_probed : {A : Type 0} (w : ℕ) (d : MessageFault) (says_so : List ℕ → A) (rest : List ℕ)
-      (f : A → Reader MessageFault B) (o : List ℕ → Option MessageFault) (k : List ℕ → Told)
+      (f : A → Reader MessageFault B) (o : List ℕ → Option MessageFault) (k : List ℕ → FaultIn)
       → ((bytes others : List ℕ) → probe (f (says_so bytes) others) ≡ option_or (o bytes) (k bytes others))
       → probe (and_then (cond (ltb (length rest) w) (Err d) (Ok (says_so (take w rest), drop w rest))) f)
       ≡ cond (ltb (length rest) w) (Some d) (option_or (o (take w rest)) (k (take w rest) (drop w rest)))
@@ -350,7 +350,7 @@ module _ {B : Type 0} (probe : Result (B × List ℕ) MessageFault → Option Me
 module _ (total : ℕ) where
   -- ---- a record
 
-  module _ (index after : ℕ) (k : Told) (probe : Result (Contents × List ℕ) MessageFault → Option MessageFault)
+  module _ (index after : ℕ) (k : FaultIn) (probe : Result (Contents × List ℕ) MessageFault → Option MessageFault)
       (err : (d : MessageFault) → probe (Err d) ≡ Some d) (ends : (c : Contents) (others : List ℕ)
       → probe (Ok (c, others)) ≡ k others) where
     abbrev tests : RecordFields → Reader MessageFault Contents
@@ -446,7 +446,7 @@ module _ (total : ℕ) where
 
   -- ---- a bound, and all bounds
 
-  module _ (after : ℕ) (k : Told) (probe : Result ((Node × Phase) × List ℕ) MessageFault → Option MessageFault)
+  module _ (after : ℕ) (k : FaultIn) (probe : Result ((Node × Phase) × List ℕ) MessageFault → Option MessageFault)
       (err : (d : MessageFault) → probe (Err d) ≡ Some d) (ends : (b : Node × Phase) (others : List ℕ)
       → probe (Ok (b, others)) ≡ k others) where
     abbrev from_node : Phase → Reader MessageFault (Node × Phase)

@@ -39,7 +39,8 @@ use Rattle.hg_obsstore.proofs.PlaceLemmas.{picked-some}
 use Rattle.hg_view.specs.Pins.{IsServedUnder}
 use Rattle.hg_message.specs.declared.refusal.OfferRefusal.{OfferRefusal}
 use Rattle.hg_message.specs.declared.refusal.OfferRefusal.TheVariants.{UnknownCommon, TooLarge, NoMemory}
-use Rattle.hg_message.specs.Value.{MessageValue, IsMessage, count_limit, is_too_large}
+use Rattle.hg_message.specs.Value.{MessageValue, IsMessage, is_too_large}
+use Rattle.hg_message.specs.Limits.{count_limit}
 use Rattle.hg_message.specs.Outgoing.{ArePlacesOf, FindAnswer}
 use Rattle.hg_message.specs.Those.{AreThose}
 use Rattle.hg_message.specs.declared.scope.Scope.{Scope}

@@ -18,7 +18,7 @@ use Rattle.hg_obsstore.specs.Faults.{store_at, IsStoreFault}
 use Rattle.hg_obsstore.specs.Spelling.{AreSpelled, IsStoreSpelling, store_spelling}
 use Rattle.hg_obsstore.proofs.FormatLemmas.{store_read, store_told}
 use Rattle.hg_message.specs.declared.error.MessageFault.TheVariants.{Truncated}
-use Rattle.hg_message.specs.Value.{count_limit}
+use Rattle.hg_message.specs.Limits.{count_limit}
 use Rattle.hg_message.specs.Message.{told_in, store_in}
 use Rattle.hg_message.proofs.FormatLemmas.{eq_then}
 

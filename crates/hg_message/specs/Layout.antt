@@ -18,7 +18,8 @@ use Rattle.hg_message.specs.Counted.{counted}
 use Rattle.hg_message.specs.Record.{record_at}
 use Rattle.hg_message.specs.Bound.{bound_at}
 use Rattle.hg_message.specs.Message.{told_in}
-use Rattle.hg_message.specs.Value.{MessageValue, count_limit}
+use Rattle.hg_message.specs.Value.{MessageValue}
+use Rattle.hg_message.specs.Limits.{count_limit}
 use Rattle.hg_message.specs.Part.{part_of}
 use Rattle.hg_message.specs.Known.{AreKnownAt, rest_of}
 

@@ -20,3 +20,4 @@ pub mod Covered
 pub mod OfferRefusals
 pub mod Taken
 pub mod Shared
+pub mod Limits

@@ -13,7 +13,8 @@ use Rattle.hg_obsstore.specs.Spelling.{IsStoreSpelling, store_spelling}
 use Rattle.hg_message.specs.declared.scope.Scope.{Scope}
 use Rattle.hg_message.specs.declared.scope.Scope.TheVariants.{Served}
 use Rattle.hg_message.specs.Scope.{scope_number}
-use Rattle.hg_message.specs.Value.{MessageValue, IsMessage, count_limit}
+use Rattle.hg_message.specs.Value.{MessageValue, IsMessage}
+use Rattle.hg_message.specs.Limits.{count_limit}
 use Rattle.hg_message.specs.Message.{magic_number}
 
 -- a number in four bytes, the highest first

@@ -8,6 +8,7 @@ use Rattle.hg_obsstore.specs.Spelling.{store_spelling}
 use Rattle.hg_message.specs.declared.scope.Scope.{Scope}
 use Rattle.hg_message.specs.declared.error.MessageError.{MessageError}
 use Rattle.hg_message.specs.declared.error.MessageError.TheVariants.{TooLarge}
+use Rattle.hg_message.specs.Limits.{count_limit}
 
 -- a scope, and records, bounds and markers, each in their order and as often as they came
 pub record MessageValue : Type 0 where
@@ -15,10 +16,6 @@ pub record MessageValue : Type 0 where
   pub changesets : List Contents
   pub bounds : List (Node × Phase)
   pub markers : List Fields
-
--- the most that a number in four bytes can tell
-abbrev pub count_limit : ℕ
-count_limit = 4294967295
 
 -- four bytes can tell how many records and bounds there are, and how long the markers are as they are written
 pub record IsMessage (m : MessageValue) : Type 0 where

@@ -119,7 +119,7 @@ impl<'a> Layout<'a> {
             return self.read_rest(alloc);
         }
         match self.read(alloc) {
-            Ok(message) => taken_apart(message),
+            Ok(message) => part_of_message(message),
             Err(error) => Err(error),
         }
     }
@@ -186,7 +186,7 @@ fn placed(start: usize, store: &[u8], cause: StoreFault) -> MessageFault
 }
 
 // The part of a message.
-fn taken_apart(message: Message) -> Result<Part, ReadError<MessageFault>>
+fn part_of_message(message: Message) -> Result<Part, ReadError<MessageFault>>
     ensures part { IfOk result (λ part. part ≡ part_of message) }
     ensures memory { IfErr result (λ error. (error ≡ ReadError.NoMemory) × (0 < length message.changesets)) }
 {

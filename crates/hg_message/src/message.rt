@@ -2,7 +2,8 @@
 ghost use Rattle.std.specs.Prelude.{◌≡◌, ◌<◌, [], IfOk, OnErr, IsErrOf, Ok, length, not, nat_lt};
 ghost use Rattle.hg_marker.specs.Reading.{Gives};
 ghost use Rattle.hg_obsstore.specs.Spelling.{store_spelling};
-ghost use Rattle.hg_message.specs.Value.{MessageValue, IsMessage, count_limit, message_of};
+ghost use Rattle.hg_message.specs.Value.{MessageValue, IsMessage, message_of};
+ghost use Rattle.hg_message.specs.Limits.{count_limit};
 ghost use Rattle.hg_message.specs.Part.{part_of};
 ghost use Rattle.hg_message.specs.Known.{PartAnswer};
 ghost use Rattle.hg_message.specs.Message.{message_at};

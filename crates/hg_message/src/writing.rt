@@ -4,7 +4,8 @@ ghost use Rattle.std.specs.List.{flat_map, AllByRecursion};
 ghost use Rattle.hex.specs.Hex.{IsBytes};
 ghost use Rattle.hg_changeset.specs.Changeset.{IsChangeset};
 ghost use Rattle.hg_obsstore.specs.Places.{picked};
-ghost use Rattle.hg_message.specs.Value.{IsMessage, count_limit};
+ghost use Rattle.hg_message.specs.Value.{IsMessage};
+ghost use Rattle.hg_message.specs.Limits.{count_limit, record_limit};
 ghost use Rattle.hg_message.specs.Message.{magic_number};
 ghost use Rattle.hg_message.specs.Spelling.{IsMessageSpelling, number, message_spelling, record_spelling, bound_layout};
 ghost use Rattle.hg_message.specs.Spelling.{HasNode, head_spelling};
@@ -66,7 +67,7 @@ pub(crate) fn begin(
     store_len: usize,
 ) -> Result<Vec<u8>, AllocError>
     requires changesets { changesets ≤ count_limit }
-    requires records { records_len ≤ 1048640 * changesets }
+    requires records { records_len ≤ record_limit * changesets }
     requires bounds { bounds ≤ count_limit }
     requires store { store_len ≤ count_limit }
     ensures { IfOk result (λ out. out.items ≡ number magic_number ++ (head_spelling scope ++ number changesets)) }
@@ -101,7 +102,7 @@ pub(crate) fn write_bounds_and_len(
 fn records_len(changesets: &[Changeset]) -> usize
     requires { length changesets.now ≤ count_limit }
     ensures len { result ≡ sum_by (λ c. 64 + length c.text) changesets.now }
-    ensures bounded { result ≤ 1048640 * length changesets.now }
+    ensures bounded { result ≤ record_limit * length changesets.now }
 {
     let mut len = 0;
     for changeset in changesets {
@@ -125,7 +126,7 @@ fn write_records(out: &mut Vec<u8>, changesets: &[Changeset]) -> Result<(), Allo
 pub(crate) fn records_len_at(graph: &Graph, places: &[usize]) -> usize
     requires { length places.now ≤ count_limit }
     ensures len { result ≡ sum_by (λ c. 64 + length c.text) (picked graph.now places.now) }
-    ensures bounded { result ≤ 1048640 * length places.now }
+    ensures bounded { result ≤ record_limit * length places.now }
 {
     let mut len = 0;
     for place in places {

@@ -10,7 +10,7 @@ use Rattle.hg_marker.specs.declared.error.MarkerError.{MarkerError}
 use Rattle.hg_marker.specs.declared.error.MarkerError.TheVariants.{SelfSuccessor, NullSuccessor, BadKey, BadValue}
 use Rattle.hg_marker.specs.declared.error.MarkerError.TheVariants.{TooManySuccessors, MetaTooLong}
 use Rattle.hg_marker.specs.Metadata.{written}
-use Rattle.hg_marker.specs.Grammar.{metadata_limit}
+use Rattle.hg_marker.specs.Limits.{metadata_limit, successor_limit}
 use Rattle.hg_marker.specs.Fields.{Fields}
 use Rattle.hg_marker.specs.Making.{marker_of, has_bad_key, has_bad_value}
 use Rattle.hg_marker.specs.Reading.{Fails, IsRead}
@@ -40,7 +40,7 @@ made_is m n h =
     let past_null = past (list_any (node_eq null_node) m.successors) NullSuccessor n _ past_self in
     let past_keys = past (has_bad_key (entries m.metadata)) BadKey n _ past_null in
     let past_values = past (has_bad_value (entries m.metadata)) BadValue n _ past_keys in
-    let past_count = past (nat_lt 255 (length m.successors)) TooManySuccessors n _ past_values in
+    let past_count = past (nat_lt successor_limit (length m.successors)) TooManySuccessors n _ past_values in
     same_ok m n (past (nat_lt metadata_limit (length (written m.metadata))) MetaTooLong n (Ok m) past_count)
 
 -- and isn't refused, nor is one for which memory is wanting

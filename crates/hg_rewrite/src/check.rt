@@ -197,14 +197,18 @@ pub(crate) fn check_not_obsolete(replica: &Replica, op: &Op) -> Result<(), Refus
 // Refuses a fold of what is no line, and a relocation onto the node itself or a descendant. It looks for neither where
 // sets that are kept have told that it is apart.
 #[inline(always)]
-pub(crate) fn check_linear(replica: &Replica, op: &Op, is_apart: bool) -> Result<(), Refusal>
+pub(crate) fn check_linear(
+    replica: &Replica,
+    op: &Op,
+    is_clear_relocation: bool,
+) -> Result<(), Refusal>
     requires known { NoneApplies (unknown_nodes replica.now op.now) }
     requires valid { IsValid replica.now }
-    requires apart { IsTrue is_apart → NoneApplies (not_linear replica.now op.now) }
+    requires apart { IsTrue is_clear_relocation → NoneApplies (not_linear replica.now op.now) }
     ensures answer { CheckedInMemory (not_linear replica.now op.now) result }
     ensures memory { IsErrOf result Refusal.NoMemory → WalksForDescendants replica.now.history op.now }
 {
-    if is_apart {
+    if is_clear_relocation {
         return Ok(());
     }
     let is_linear = match op {
@@ -221,14 +225,13 @@ pub(crate) fn check_linear(replica: &Replica, op: &Op, is_apart: bool) -> Result
 
 // Whether it is a relocation whose new parents can't be descendants: the node is an orphan, and they are neither
 // orphans nor obsolete, as all descendants of an orphan are. It is told by what is kept, and takes no memory.
-pub(crate) fn is_apart(kept: &Kept, op: &Op) -> bool
+pub(crate) fn is_clear_relocation(kept: &Kept, op: &Op) -> bool
     ensures { IsTrue result → NoneApplies (not_linear kept.now.replica op.now) }
 {
     let Op::Relocate { node, p, q, .. } = op else {
         return false;
     };
-    // It says that the replica is in a valid state.
-    let _replica = kept.replica();
+    kept.replica().is_valid();
     if !kept.instabilities().orphan().contains(node) {
         return false;
     }

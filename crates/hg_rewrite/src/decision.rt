@@ -12,7 +12,7 @@ use crate::bounds::bounds;
 use crate::changesets::{ids_of, new_changesets};
 use crate::check::{
     check_count, check_known, check_linear, check_new, check_not_obsolete, check_not_public,
-    check_pruner, check_raise, check_shown, check_visible, is_apart,
+    check_pruner, check_raise, check_shown, check_visible, is_clear_relocation,
 };
 use crate::markers::markers;
 use crate::op::Op;
@@ -58,16 +58,21 @@ pub fn decide_kept(alloc: Global, kept: &Kept, op: &Op) -> Result<Part, Refusal>
     let replica = kept.replica();
     check_known(replica, op)?;
     check_shown(kept, op)?;
-    decide_shown(alloc, replica, op, is_apart(kept, op))
+    decide_shown(alloc, replica, op, is_clear_relocation(kept, op))
 }
 
 // Decides an operation whose nodes are held, under any pins under which its new parents aren't hidden. Whether it is
 // known to be apart, as sets that are kept tell of a relocation, spares a walk.
 #[inline(always)]
-fn decide_shown(alloc: Global, replica: &Replica, op: &Op, is_apart: bool) -> Result<Part, Refusal>
+fn decide_shown(
+    alloc: Global,
+    replica: &Replica,
+    op: &Op,
+    is_clear_relocation: bool,
+) -> Result<Part, Refusal>
     requires known { NoneApplies (unknown_nodes replica.now op.now) }
     requires valid { IsValid replica.now }
-    requires apart { IsTrue is_apart → NoneApplies (not_linear replica.now op.now) }
+    requires apart { IsTrue is_clear_relocation → NoneApplies (not_linear replica.now op.now) }
     ensures answer { (pins : List Node) → NoneApplies (hidden_parents replica.now pins op.now)
         → DecideAnswer replica.now pins op.now result }
     ensures later { (pins : List Node) → NoneApplies (hidden_parents replica.now pins op.now)
@@ -76,7 +81,7 @@ fn decide_shown(alloc: Global, replica: &Replica, op: &Op, is_apart: bool) -> Re
 {
     check_not_public(replica, op)?;
     check_not_obsolete(replica, op)?;
-    check_linear(replica, op, is_apart)?;
+    check_linear(replica, op, is_clear_relocation)?;
     check_count(op)?;
     check_raise(replica, op)?;
     check_pruner(op)?;

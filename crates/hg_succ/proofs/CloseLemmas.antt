@@ -6,8 +6,8 @@ use Rattle.std.proofs.lemmas.Bool.{cases_lt}
 use Rattle.std.proofs.lemmas.List.{length_push, length-take-le, take_all, take_at, take-take, append-nil, append_assoc}
 use Rattle.std.proofs.lemmas.Option.{slice_get_within, none-some}
 use Rattle.std.proofs.lemmas.List.Elements.{Contains-append_left, Contains-push, Contains-push_cases}
-use Rattle.hg_succ.specs.declared.search.Mark.{Mark}
-use Rattle.hg_succ.specs.declared.search.Mark.TheVariants.{New, Waiting, Done}
+use Rattle.hg_succ.specs.declared.search.Progress.{Progress}
+use Rattle.hg_succ.specs.declared.search.Progress.TheVariants.{New, Waiting, Done}
 use Rattle.hg_succ.specs.declared.search.Closed.{Closed}
 use Rattle.hg_succ.specs.Steps.{Reaches, LeadsBack}
 use Rattle.hg_succ.specs.Steps.Reaches.{no_step}
@@ -216,7 +216,7 @@ module _ (R : List (List ℕ)) (s : SearchState) (so : IsSearch R s) (t u : ℕ)
 
   after_waits : (p x : ℕ) → At new.marks x (Waiting p) → At (take t s.waiting) p x
   after_waits p x h = elim (st.from x (Waiting p) h) [
-    | inl part ↦ absurd (let e = part.0 in waiting_done p (ap (λ (m : Mark). Some m) e))
+    | inl part ↦ absurd (let e = part.0 in waiting_done p (ap (λ (m : Progress). Some m) e))
     | inr old ↦ elim (cases_lt p t) [
       | inl before ↦ slice_get-take s.waiting t p x before (so.waits p x old)
       | inr after ↦ absurd (waiting_done p (sym h ∙ st.done p x after (so.waits p x old)))
@@ -225,7 +225,7 @@ module _ (R : List (List ℕ)) (s : SearchState) (so : IsSearch R s) (t u : ℕ)
 
   after_fresh : (x : ℕ) → At new.marks x New → At s.marks x New
   after_fresh x h =
-      elim (st.from x New h) [ inl part ↦ absurd (new_done (ap (λ (m : Mark). Some m) part.0)) | inr old ↦ old ]
+      elim (st.from x New h) [ inl part ↦ absurd (new_done (ap (λ (m : Progress). Some m) part.0)) | inr old ↦ old ]
 
   after_all_followed : (p x : ℕ) → At (take t s.waiting) p x → Contains end.last.0 p ⊎ At s.left x 0
   after_all_followed p x h =
@@ -350,7 +350,7 @@ module _ (c : Bool) (old s new : SearchState) (so : Closes (length s.waiting) c 
       (slice_get-append_seam new.waiting last.node []))).1
 
   more_done : (p x : ℕ) → length new.waiting ≤ p → At old.waiting p x → At new.marks x Done
-  more_done p x le h = subst (λ (ms : List Mark). At ms x Done) (sym last.marks)
+  more_done p x le h = subst (λ (ms : List Progress). At ms x Done) (sym last.marks)
       (elim (cases_lt (length new.waiting) p) [
         | inl later ↦ get_set_keeps s.marks last.node Done x (so.done p x (omega (arith, longer_waiting)) h)
         | inr same ↦
@@ -363,15 +363,15 @@ module _ (c : Bool) (old s new : SearchState) (so : Closes (length s.waiting) c 
   more_others : (x : ℕ) → ((p : ℕ) → length new.waiting ≤ p → ¬ (At old.waiting p x))
       → slice_get new.marks x ≡ slice_get old.marks x
   more_others x isnt =
-      ap (λ (ms : List Mark). slice_get ms x) last.marks
+      ap (λ (ms : List Progress). slice_get ms x) last.marks
       ∙ get-set_other s.marks last.node x Done
       (λ e. isnt (length new.waiting) (omega arith) (subst (At old.waiting (length new.waiting)) (sym e) last_at))
       ∙ so.others x (λ p le h. isnt p (omega (arith, longer_waiting)) h)
 
-  more_from : (x : ℕ) (m : Mark) → At new.marks x m
+  more_from : (x : ℕ) (m : Progress) → At new.marks x m
       → ((m ≡ Done) × (p : ℕ) × (length new.waiting ≤ p) × At old.waiting p x) ⊎ At old.marks x m
   more_from x m h =
-      elim (get_set_cases s.marks last.node Done x m (subst (λ (ms : List Mark). At ms x m) last.marks h)) [
+      elim (get_set_cases s.marks last.node Done x m (subst (λ (ms : List Progress). At ms x m) last.marks h)) [
         | inl same ↦
             inl (
               sym same.1,

@@ -14,10 +14,11 @@ use Rattle.hg_succ.specs.Numbered.{successors_at}
 use Rattle.hg_succ.specs.Cover.{Known, entry, count_in, NoneOverfull}
 use Rattle.hg_succ.specs.Cover.Known.{are_sets, counted, overfull}
 use Rattle.hg_succ.specs.Unions.{counts}
-use Rattle.hg_succ.specs.Factors.{factor_in, FewWays, HasManyWays, ways_at, many_at, have_none, empties_at}
+use Rattle.hg_succ.specs.Factors.{factor_in, HasWays, HasManyWays, ways_at, many_at, have_none, empties_at}
 use Rattle.std.proofs.lemmas.Bool.{cases_Bool}
 use Rattle.hg_succ.proofs.NumberLemmas.{more_of}
 use Rattle.hg_succ.proofs.SetLemmas.{filter_take, filter_drop}
+use Rattle.hg_succ.specs.Limits.{union_limit}
 
 factor_pos : (c : ℕ) → 0 < max c 1
 factor_pos c = omega arith
@@ -80,15 +81,15 @@ module _ (t : Table) (nodes : List Node) (i : ℕ) (x : Node) (inside : i < leng
   pub stops_overfull : factor_in (entry t x) ≡ None → HasManyWays t nodes
   stops_overfull e = inl (x, node_in, factor_none (entry t x) e)
 
-  module _ (w f : ℕ) (few : FewWays t (take i nodes) w) (factor : factor_in (entry t x) ≡ Some f) (p : ℕ)
+  module _ (w f : ℕ) (few : HasWays t (take i nodes) w) (factor : factor_in (entry t x) ≡ Some f) (p : ℕ)
       (product : p ≡ min (w * f) (2 ^ 64 - 1)) where
     full : ways (counts t (take (i + 1) nodes)) ≡ w * f
     full = ways_more ∙ (λ j. sym few.ways j * sym (factor_some (entry t x) f factor).0 j)
 
-    pub stops_many : 4096 < p → HasManyWays t nodes
+    pub stops_many : union_limit < p → HasManyWays t nodes
     stops_many l = inr (let e = full in let b = ways_all in omega (arith, e, b, product, l))
 
-    pub goes_on : p ≤ 4096 → FewWays t (take (i + 1) nodes) p
+    pub goes_on : p ≤ union_limit → HasWays t (take (i + 1) nodes) p
     goes_on l = record {
       ways = (let e = full in let k : p ≡ w * f = omega (arith, product, l) in k ∙ sym e);
       few = l;
@@ -135,11 +136,11 @@ module _ (t : Table) (markers : List Fields) (places : List ℕ) (i place : ℕ)
   ]
 
   module _ (total w : ℕ) (so_far : ((p : ℕ) → Contains (take i places) p → NoneOverfull t (successors_at markers p))
-      × (total ≡ sum (ways_at t markers (take i places)))) (few : FewWays t (successors_at markers place) w) where
+      × (total ≡ sum (ways_at t markers (take i places)))) (few : HasWays t (successors_at markers place) w) where
     sum_is : sum (ways_at t markers (take (i + 1) places)) ≡ total + w
     sum_is = (let e = sum_more in omega (arith, e, so_far.1, few.ways))
 
-    pub sum_stops : 4096 < total + w → many_at t markers places
+    pub sum_stops : union_limit < total + w → many_at t markers places
     sum_stops l = inr (let a = sum_is in let b = sum_all in omega (arith, a, b, l))
 
     pub sum_goes_on : ((p : ℕ) → Contains (take (i + 1) places) p → NoneOverfull t (successors_at markers p))

@@ -228,7 +228,7 @@ module _ (R : Node → Node → Type 0) (pairs : IsPairing R) (f g : Content) (n
 -- ---- what is overfull
 
 -- the same markers rewrote n, to nodes of which P holds
-record IsKept (P : Node → Type 0) (f g : Content) (n : Node) : Type 0 where
+record IsUnaffected (P : Node → Type 0) (f g : Content) (n : Node) : Type 0 where
   cycle : IsOnCycle f n ↔ IsOnCycle g n
   markers : (m : Fields) → m.predecessor ≡ n → IsMarker f m ↔ IsMarker g m
   closed : (m : Fields) (y : Node) → IsMarker f m → m.predecessor ≡ n → Contains m.successors y → P y
@@ -237,10 +237,10 @@ record IsKept (P : Node → Type 0) (f g : Content) (n : Node) : Type 0 where
 record AreTranslated (P : Node → Type 0) (R : Node → Node → Type 0) (f g : Content) : Type 0 where
   pairs : IsPairing R
   picks : (n : Node) → P n → ArePicksMatched R f g n
-  kept : (n : Node) → P n → ((¬ (IsOverfull f n)) × (¬ (IsOverfull g n))) ⊎ IsKept P f g n
+  kept : (n : Node) → P n → ((¬ (IsOverfull f n)) × (¬ (IsOverfull g n))) ⊎ IsUnaffected P f g n
 
-flip-kept : (P : Node → Type 0) (f g : Content) (n : Node) → IsKept P f g n → IsKept P g f n
-flip-kept P f g n k = record {
+flip-unaffected : (P : Node → Type 0) (f g : Content) (n : Node) → IsUnaffected P f g n → IsUnaffected P g f n
+flip-unaffected P f g n k = record {
   cycle = (k.cycle.1, k.cycle.0);
   markers = λ m at. ((k.markers m at).1, (k.markers m at).0);
   closed = λ m y held at h. k.closed m y ((k.markers m at).1 held) at h;
@@ -253,12 +253,12 @@ flip-translated P R f g t = record {
   picks = λ n so. flip-picks R f g n (t.picks n so);
   kept = λ n so. elim (t.kept n so) [
     | inl few ↦ inl (few.1, few.0)
-    | inr k ↦ inr (flip-kept P f g n k)
+    | inr k ↦ inr (flip-unaffected P f g n k)
   ];
 }
 
 module _ (P : Node → Type 0) (R : Node → Node → Type 0) (f g : Content) (t : AreTranslated P R f g) where
-  counts-matched : (n : Node) (m : Fields) (counts : List ℕ) → IsKept P f g n → m.predecessor ≡ n → IsMarker f m
+  counts-matched : (n : Node) (m : Fields) (counts : List ℕ) → IsUnaffected P f g n → m.predecessor ≡ n → IsMarker f m
       → HasCounts f m counts → HasCounts g m counts
   counts-matched n m counts k at held = each_zip (HasCount f) (HasCount g) m.successors counts
       (λ y count i has. count-matched R t.pairs f g y (t.picks y (k.closed m y held at i)) count has)
@@ -499,7 +499,7 @@ module _ (p x : Node) (fresh : Fields) (f g : Content) (am : IsAmended p x fresh
   amend_few n (inr is) = subst (λ k. (¬ (HasSeveral f k)) × (¬ (HasSeveral g k))) (sym is) new_few
 
   -- a node other than p has the same markers in both
-  amend_keeps : (n : Node) → n ≢ x → n ≢ p → IsKept (λ k. k ≢ x) f g n
+  amend_keeps : (n : Node) → n ≢ x → n ≢ p → IsUnaffected (λ k. k ≢ x) f g n
   amend_keeps n so other = record {
     cycle = cycles n so;
     markers = λ m at. (
@@ -513,7 +513,7 @@ module _ (p x : Node) (fresh : Fields) (f g : Content) (am : IsAmended p x fresh
   }
 
   amend_kept : (n : Node) → n ≢ x
-      → ((¬ (IsOverfull f n)) × (¬ (IsOverfull g n))) ⊎ IsKept (λ k. k ≢ x) f g n
+      → ((¬ (IsOverfull f n)) × (¬ (IsOverfull g n))) ⊎ IsUnaffected (λ k. k ≢ x) f g n
   amend_kept n so = elim (node_cases n p) [
     | inl is ↦ inl ((λ h. (amend_few n (inl is)).0 (inl h)), (λ h. (amend_few n (inl is)).1 (inl h)))
     | inr other ↦ inr (amend_keeps n so other)

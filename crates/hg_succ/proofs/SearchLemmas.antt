@@ -7,8 +7,8 @@ use Rattle.std.proofs.lemmas.List.{length_push, length-map}
 use Rattle.std.proofs.lemmas.Option.{slice_get_within, slice_get_read, none-some, same_Some}
 use Rattle.std.proofs.lemmas.List.Elements.{Contains-append_left, Contains-push, Contains-push_cases}
 use Rattle.std.proofs.lemmas.List.Elements.{Contains-append_cases}
-use Rattle.hg_succ.specs.declared.search.Mark.{Mark}
-use Rattle.hg_succ.specs.declared.search.Mark.TheVariants.{New, Waiting, Done}
+use Rattle.hg_succ.specs.declared.search.Progress.{Progress}
+use Rattle.hg_succ.specs.declared.search.Progress.TheVariants.{New, Waiting, Done}
 use Rattle.hg_succ.specs.Steps.{Reaches}
 use Rattle.hg_succ.specs.Steps.Reaches.{no_step, one_step_more}
 use Rattle.hg_succ.specs.Rows.{At, rows_of, Edge, AreWithin}
@@ -93,7 +93,8 @@ module _ (R : List (List ℕ)) (s : SearchState) (so : IsSearch R s) where
 
 module _ (R : List (List ℕ)) (s : SearchState) (so : IsSearch R s) (y : ℕ) (new : At s.marks y New)
     (from : CanEnter R s y) where
-  other_mark : (x : ℕ) (m : Mark) → (New ≡ m → ⊥) → At s.marks x m → At (set s.marks y (Waiting (length s.waiting))) x m
+  other_mark : (x : ℕ) (m : Progress) → (New ≡ m → ⊥) → At s.marks x m
+      → At (set s.marks y (Waiting (length s.waiting))) x m
   other_mark x m differs h =
       get-set_other s.marks y x (Waiting (length s.waiting))
       (λ e. differs (same_Some New m (sym new ∙ subst (λ z. At s.marks z m) e h))) ∙ h
@@ -103,7 +104,7 @@ module _ (R : List (List ℕ)) (s : SearchState) (so : IsSearch R s) (y : ℕ) (
 
   old_done : (x : ℕ) → At (set s.marks y (Waiting (length s.waiting))) x Done → At s.marks x Done
   old_done x h = elim (get_set_cases s.marks y (Waiting (length s.waiting)) x Done h)
-      [ inl same ↦ absurd (waiting_done (length s.waiting) (ap (λ (m : Mark). Some m) same.1)) | inr old ↦ old ]
+      [ inl same ↦ absurd (waiting_done (length s.waiting) (ap (λ (m : Progress). Some m) same.1)) | inr old ↦ old ]
 
   entered_met : (p x : ℕ) → At (s.waiting ++ y ∷ []) p x → At (set s.marks y (Waiting (length s.waiting))) x (Waiting p)
   entered_met p x h = elim (slice_get-push_cases s.waiting y p x h) [
@@ -127,7 +128,7 @@ module _ (R : List (List ℕ)) (s : SearchState) (so : IsSearch R s) (y : ℕ) (
   entered_fresh : (x : ℕ) (row : List ℕ) → At (set s.marks y (Waiting (length s.waiting))) x New → At R x row
       → At s.left x (length row)
   entered_fresh x row h r = elim (get_set_cases s.marks y (Waiting (length s.waiting)) x New h) [
-    | inl same ↦ absurd (new_waiting (length s.waiting) (ap (λ (m : Mark). Some m) (sym same.1)))
+    | inl same ↦ absurd (new_waiting (length s.waiting) (ap (λ (m : Progress). Some m) (sym same.1)))
     | inr old ↦
         so.fresh x row old r
   ]
@@ -420,10 +421,12 @@ module _ (R : List (List ℕ)) (s : SearchState) (so : IsSearch R s) (t u : ℕ)
   is_edge = (row, row_at, Contains-from_place row l y edge)
 
   entered_stays : StaysMet s.marks (set s.marks y (Waiting (length s.waiting)))
-  entered_stays x h = elim (get_set_cases s.marks y (Waiting (length s.waiting)) x New h)
-      [ inl same ↦ absurd (new_waiting (length s.waiting) (ap (λ (m : Mark). Some m) (sym same.1))) | inr old ↦ old ]
+  entered_stays x h = elim (get_set_cases s.marks y (Waiting (length s.waiting)) x New h) [
+    | inl same ↦ absurd (new_waiting (length s.waiting) (ap (λ (m : Progress). Some m) (sym same.1)))
+    | inr old ↦ old
+  ]
 
-  went : (mid : SearchState) (m : Mark) → At s.marks y m → GoesTo m y s mid → Went R s t u y mid
+  went : (mid : SearchState) (m : Progress) → At s.marks y m → GoesTo m y s mid → Went R s t u y mid
   went mid New mark goes = subst (Went R s t u y) (sym goes) (record {
     so = enters R s so y mark (inr (t, u, end, is_edge));
     accounted = entered_accounted R s so y mark (inr (t, u, end, is_edge)) t;
@@ -452,7 +455,7 @@ module _ (R : List (List ℕ)) (s : SearchState) (so : IsSearch R s) (t u : ℕ)
     met = λ x h. h;
   })
 
-  module _ (mid : SearchState) (goes : (m : Mark) → At s.marks y m → GoesTo m y s mid)
+  module _ (mid : SearchState) (goes : (m : Progress) → At s.marks y m → GoesTo m y s mid)
       (within : y < length s.marks) where
     gone : Went R s t u y mid
     gone = let m = slice_get_some s.marks y within in went mid m.0 m.1 (goes m.0 m.1)
@@ -484,7 +487,7 @@ pub all_listed : (R : List (List ℕ)) (s : SearchState) → IsSearch R s → s.
     → ¬ (At s.marks x New) → IsListed s.order x
 all_listed R s so empty x l old = let m = slice_get_some s.marks x (omega (arith, so.marks_long)) in by m.0 m.1
   where
-    by : (m : Mark) → At s.marks x m → IsListed s.order x
+    by : (m : Progress) → At s.marks x m → IsListed s.order x
     by New h = absurd (old h)
     by (Waiting p) h = absurd (none_at s.waiting p x empty (so.waits p x h))
     by Done h = so.listed x h
@@ -561,7 +564,7 @@ module _ (rows : List (Vec ℕ Global)) (s : SearchState) (so : IsSearch (rows_o
         left_one : At s.left u (suc (n - 1))
         left_one = (let e : n ≡ suc (n - 1) = omega arith in subst (At s.left u) e left_is)
 
-        module _ (mid : SearchState) (goes : (m : Mark) → At s.marks y m → GoesTo m y s mid) where
+        module _ (mid : SearchState) (goes : (m : Progress) → At s.marks y m → GoesTo m y s mid) where
           pub step_search : IsSearch (rows_of rows) (record mid { left = set mid.left u (n - 1) })
           step_search = stepped (rows_of rows) s so t u node_end (n - 1) left_one row.items row_stands y edge_is mid
               goes edge_within
@@ -583,9 +586,11 @@ module _ (rows : List (Vec ℕ Global)) (s : SearchState) (so : IsSearch (rows_o
           )
 
 -- a mark that is made leaves no new node
-pub set_stays : (ms : List Mark) (y p : ℕ) → StaysMet ms (set ms y (Waiting p))
-set_stays ms y p x h = elim (get_set_cases ms y (Waiting p) x New h)
-    [ inl same ↦ absurd (new_waiting p (ap (λ (m : Mark). Some m) (sym same.1))) | inr old ↦ old ]
+pub set_stays : (ms : List Progress) (y p : ℕ) → StaysMet ms (set ms y (Waiting p))
+set_stays ms y p x h = elim (get_set_cases ms y (Waiting p) x New h) [
+  | inl same ↦ absurd (new_waiting p (ap (λ (m : Progress). Some m) (sym same.1)))
+  | inr old ↦ old
+]
 
-pub set_not_new : (ms : List Mark) (y p : ℕ) → y < length ms → At (set ms y (Waiting p)) y New → ⊥
+pub set_not_new : (ms : List Progress) (y p : ℕ) → y < length ms → At (set ms y (Waiting p)) y New → ⊥
 set_not_new ms y p l h = new_waiting p (sym h ∙ get-set_same ms y (Waiting p) l)

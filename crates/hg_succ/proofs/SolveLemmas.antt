@@ -35,11 +35,11 @@ use Rattle.hg_succ.specs.Successors.IsOverfull.{passed_on, too_many}
 use Rattle.hg_succ.specs.Answer.{sets_of}
 use Rattle.hg_succ.specs.Numbered.{successors_at, IsRow}
 use Rattle.hg_succ.specs.Cover.{Known, IsCover, IsSolved, IsTable, IsSeveral, HasEntry, known_by, answer, answer_at}
-use Rattle.hg_succ.specs.Cover.{entry, families, family_in, count_in, count_of, IsKept, sets_at, NoneOverfull}
+use Rattle.hg_succ.specs.Cover.{entry, families, family_in, count_in, count_of, IsNotCounted, sets_at, NoneOverfull}
 use Rattle.hg_succ.specs.Cover.{SomeOverfull}
 use Rattle.hg_succ.specs.Cover.Known.{are_sets, counted, overfull}
 use Rattle.hg_succ.specs.Unions.{choices, choices_on, counts, AreLargest, IsChoice}
-use Rattle.hg_succ.specs.Factors.{many_at, few_at, ways_at, IsFew, IsOnlySuccessor, AllWays}
+use Rattle.hg_succ.specs.Factors.{many_at, few_at, ways_at, IsInLimit, IsOnlySuccessor, AllWays}
 use Rattle.hg_succ.specs.Factors.{empties_at}
 use Rattle.hg_succ.specs.Plan.{IsApart, AreStrangers}
 use Rattle.hg_succ.proofs.NumberLemmas.{successors_there, rewritten_places}
@@ -52,6 +52,7 @@ use Rattle.hg_succ.proofs.TableLemmas.{entry_solved, entry_known, known_several}
 use Rattle.hg_succ.proofs.SetLemmas.{flat_contains, contains_flat, choices_have}
 use Rattle.hg_succ.proofs.FamilyLemmas.{family_from_cover, pick_on_cycle, not_overfull, pick_free_held}
 use Rattle.hg_succ.proofs.FamilyLemmas.{pick_free_unknown, pick_of_one, AreUnions, cover_from_unions}
+use Rattle.hg_succ.specs.Limits.{union_limit}
 
 -- a node has one family, so one count
 one_count : (s : Content) (n : Node) (a b : ℕ) → HasCount s n a → HasCount s n b → a ≡ b
@@ -254,12 +255,13 @@ module _ (s : ReplicaState) (t : Table) (so : IsTable (content_of s) t) (n : Nod
       counts_all ms (λ k g. h k (Contains-later m ms k g)),
     )
 
-    over_many : 4096 < sum (ways_at t s.markers places) → IsOverfull (content_of s) n
+    over_many : union_limit < sum (ways_at t s.markers places) → IsOverfull (content_of s) n
     over_many l = too_many own.0 (map (λ m. counts t m.successors) own.0) off own_are
         (counts_all own.0 (λ m h. (own_are.exact m).0 h))
-        (subst (λ (ws : List ℕ). 4096 < sum ws) (same_ways t s.markers places own.0 own.1 ∙ sym (map_ways t own.0)) l)
+        (subst (λ (ws : List ℕ). union_limit < sum ws)
+        (same_ways t s.markers places own.0 own.1 ∙ sym (map_ways t own.0)) l)
 
-    not_over : sum (ways_at t s.markers places) ≤ 4096 → IsOverfull (content_of s) n → ⊥
+    not_over : sum (ways_at t s.markers places) ≤ union_limit → IsOverfull (content_of s) n → ⊥
     not_over l (passed_on off' to over) =
         let at = (rewritten_places s places n are _).1 to in
         (known at.0 _ at.1 at.2).1 over
@@ -321,7 +323,7 @@ module _ (s : ReplicaState) (t : Table) (so : IsTable (content_of s) t) (n : Nod
   ]
 
   -- the unions that are formed are those of the sets, where the successors' families are kept
-  same_unions : ((x : Node) → IsRewrittenTo (content_of s) n x → IsKept t x)
+  same_unions : ((x : Node) → IsRewrittenTo (content_of s) n x → IsNotCounted t x)
       → flat_map (λ p. choices t (successors_at s.markers p)) places
       ≡ unions_of (sets_of_node (content_of s) t so) s.markers places
   same_unions kept = flat_same (λ p. choices t (successors_at s.markers p))
@@ -332,7 +334,7 @@ module _ (s : ReplicaState) (t : Table) (so : IsTable (content_of s) t) (n : Nod
       (kept_entry t.families.items (answer t x) (kept x (step_at p x h g))))))
 
   -- and otherwise its sets are the largest of the unions
-  pub solved_few : few_at t s.markers places → ((x : Node) → IsRewrittenTo (content_of s) n x → IsKept t x)
+  pub solved_few : few_at t s.markers places → ((x : Node) → IsRewrittenTo (content_of s) n x → IsNotCounted t x)
       → IsPredecessor (content_of s) n → (family : List (List Node))
       → AreLargest (flat_map (λ p. choices t (successors_at s.markers p)) places) family
       → IsCover (content_of s) n family × ¬ (IsOverfull (content_of s) n)
@@ -409,7 +411,8 @@ module _ (s : ReplicaState) (t : Table) (so : IsTable (content_of s) t) (n : Nod
       covers = λ p pick. c.covers p (pick_down p pick);
     }
 
-    few_only : (k : Known) → entry t x ≡ Some k → ¬ (k ≡ overfull) → count_of k ≤ 4096 → few_at t s.markers places
+    few_only : (k : Known) → entry t x ≡ Some k → ¬ (k ≡ overfull) → count_of k ≤ union_limit
+        → few_at t s.markers places
     few_only k is fine le =
         let told : ways_at t s.markers places ≡ (max (count_of k) 1 * 1) ∷ [] =
         ap (ways_at t s.markers) only.1
@@ -427,7 +430,7 @@ module _ (s : ReplicaState) (t : Table) (so : IsTable (content_of s) t) (n : Nod
         )
 
     -- what is known of the successor is so of the node
-    pub solved_shared : (k : Known) → entry t x ≡ Some k → IsFew k → IsSolved (content_of s) n k
+    pub solved_shared : (k : Known) → entry t x ≡ Some k → IsInLimit k → IsSolved (content_of s) n k
     solved_shared (are_sets family) is le =
         let few = few_only (are_sets family) is (λ e. cc) le in
         (shared_cover family (entry_solved (content_of s) t so x (are_sets family) is).0, not_over few.0 few.1)

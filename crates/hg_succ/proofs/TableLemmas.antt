@@ -19,7 +19,7 @@ use Rattle.hg_succ.specs.declared.families.Table.{Table}
 use Rattle.hg_succ.specs.Successors.{IsFamily, IsOverfull, HasSeveral}
 use Rattle.hg_succ.specs.Answer.{sets_of}
 use Rattle.hg_succ.specs.Cover.{Known, IsSolved, IsRight, IsPlaced, IsTable, IsSeveral, HasEntry, Keeps, PutsLast}
-use Rattle.hg_succ.specs.Cover.{Solves, AddsAnswer, IsKept, known_by, sets_at, answer, entry}
+use Rattle.hg_succ.specs.Cover.{Solves, AddsAnswer, IsNotCounted, known_by, sets_at, answer, entry}
 use Rattle.hg_succ.specs.Cover.Known.{are_sets, counted, overfull}
 use Rattle.hg_succ.specs.Rows.{At}
 use Rattle.hg_succ.specs.Numbered.{AreOnce}
@@ -149,7 +149,7 @@ module _ (f : Content) (old mid new : Table) (number : ℕ) (node : Node) (solve
 
   -- what isn't only counted stays so
   pub adds_kept : (P : Node → Type 0) → (P node → (count : ℕ) → ¬ (solved ≡ Counted count))
-      → ((n : Node) → P n → IsKept old n) → (n : Node) → P n → IsKept new n
+      → ((n : Node) → P n → IsNotCounted old n) → (n : Node) → P n → IsNotCounted new n
   adds_kept P now' before n p count is = elim (either n) [
     | inl same ↦ now' (subst P (sym same) p) count (same_Some solved (Counted count)
         (sym here ∙ ap (answer new) same ∙ is))

@@ -83,8 +83,8 @@ pub record IsTable (f : Content) (table : Table) : Type 0 where
   pub right : (n : Node) (solved : Solved) → answer table n ≡ Some solved → IsRight f n table.families.items solved
 
 -- the node's sets aren't only counted
-abbrev pub IsKept : Table → Node → Type 0
-IsKept table n = (count : ℕ) → ¬ (answer table n ≡ Some (Counted count))
+abbrev pub IsNotCounted : Table → Node → Type 0
+IsNotCounted table n = (count : ℕ) → ¬ (answer table n ≡ Some (Counted count))
 
 -- how many sets there are; none where the node is overfull
 abbrev pub count_of : Known → ℕ

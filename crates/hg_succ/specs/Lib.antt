@@ -11,3 +11,4 @@ pub mod Unions
 pub mod Holders
 pub mod Factors
 pub mod Plan
+pub mod Limits

@@ -1,8 +1,8 @@
 -- How far a search has come, and what is so of it all the time.
 use Rattle.std.specs.Prelude.{◌≡◌, ℕ, ◌+◌, ◌*◌, ◌<◌, ◌≤◌, ◌⊎◌, Bool, List, [], ◌∷◌, ◌++◌, length, take, slice_get}
 use Rattle.std.specs.Prelude.{slice_set, sum, Contains}
-use Rattle.hg_succ.specs.declared.search.Mark.{Mark}
-use Rattle.hg_succ.specs.declared.search.Mark.TheVariants.{New, Waiting, Done}
+use Rattle.hg_succ.specs.declared.search.Progress.{Progress}
+use Rattle.hg_succ.specs.declared.search.Progress.TheVariants.{New, Waiting, Done}
 use Rattle.hg_succ.specs.declared.search.Closed.{Closed}
 use Rattle.hg_succ.specs.declared.search.Search.{Search}
 use Rattle.hg_succ.specs.Steps.{Reaches}
@@ -11,7 +11,7 @@ use Rattle.hg_succ.specs.Rows.{At, Edge, IsOrder, StandsBefore}
 pub record SearchState : Type 0 where
   -- how many of the first edges of each node aren't followed yet
   pub left : List ℕ
-  pub marks : List Mark
+  pub marks : List Progress
   -- the nodes that were met and aren't closed, in the order in which they were met
   pub waiting : List ℕ
   -- the places there of the nodes from which the search still goes on
@@ -101,7 +101,7 @@ pub record Closes (place : ℕ) (cyclic : Bool) (old new : SearchState) : Type 0
   pub marks_long : length new.marks ≡ length old.marks
   pub done : (p x : ℕ) → place ≤ p → At old.waiting p x → At new.marks x Done
   pub others : (x : ℕ) → ((p : ℕ) → place ≤ p → ¬ (At old.waiting p x)) → slice_get new.marks x ≡ slice_get old.marks x
-  pub from : (x : ℕ) (m : Mark) → At new.marks x m → ((m ≡ Done) × (p : ℕ) × (place ≤ p) × At old.waiting p x)
+  pub from : (x : ℕ) (m : Progress) → At new.marks x m → ((m ≡ Done) × (p : ℕ) × (place ≤ p) × At old.waiting p x)
       ⊎ At old.marks x m
   pub more : (more : List Closed) × (new.order ≡ old.order ++ more)
       × ((k : ℕ) (e : Closed) → At more k e → (e.cyclic ≡ cyclic) × (p : ℕ) × (place ≤ p) × At old.waiting p e.node)
@@ -116,7 +116,7 @@ abbrev pub CanEnter : List (List ℕ) → SearchState → ℕ → Type 0
 CanEnter rows s y = (s.waiting ≡ []) ⊎ ((t u : ℕ) × IsAtEnd s t u × Edge rows u y)
 
 -- the search goes along an edge to a node with this mark
-abbrev pub GoesTo : Mark → ℕ → SearchState → SearchState → Type 0
+abbrev pub GoesTo : Progress → ℕ → SearchState → SearchState → Type 0
 GoesTo New node old new = new ≡ entered node old
 GoesTo (Waiting place) node old new = KeepsUpTo place old.starts new.starts × (new ≡ record old { starts = new.starts })
 GoesTo Done node old new = new ≡ old
@@ -136,5 +136,5 @@ abbrev pub IsCyclicPart : List (List ℕ) → List ℕ → ℕ → ℕ → Type 
 IsCyclicPart rows waiting place node = (place + 1 < length waiting) ⊎ Edge rows node node
 
 -- nothing new is new
-abbrev pub StaysMet : List Mark → List Mark → Type 0
+abbrev pub StaysMet : List Progress → List Progress → Type 0
 StaysMet old new = (x : ℕ) → At new x New → At old x New

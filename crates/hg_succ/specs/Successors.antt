@@ -10,6 +10,7 @@ use Rattle.hg_obsstore.specs.Markers.{AreDifferent}
 use Rattle.hg_history.specs.Content.{IsHeld}
 use Rattle.hg_replica.specs.Content.{Content}
 use Rattle.hg_replica.specs.Evolution.{IsMarker, IsPredecessor, Precedes}
+use Rattle.hg_succ.specs.Limits.{union_limit}
 
 -- any marker at all
 abbrev pub IsAny : Fields → Type 0
@@ -84,7 +85,7 @@ pub record AreMarkersOf (f : Content) (n : Node) (ms : List Fields) : Type 0 whe
 pub data IsOverfull (f : Content) : Node → Type 0 where
   passed_on : {n x : Node} → ¬ (IsOnCycle f n) → IsRewrittenTo f n x → IsOverfull f x → IsOverfull f n
   too_many : {n : Node} (ms : List Fields) (counts : List (List ℕ)) → ¬ (IsOnCycle f n) → AreMarkersOf f n ms
-      → AllZip (HasCounts f) ms counts → 4096 < sum (map ways counts) → IsOverfull f n
+      → AllZip (HasCounts f) ms counts → union_limit < sum (map ways counts) → IsOverfull f n
 
 -- more than one successors set, or overfull: what n became differs with the markers that are followed
 abbrev pub HasSeveral : Content → Node → Type 0

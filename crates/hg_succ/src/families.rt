@@ -15,10 +15,10 @@ ghost use Rattle.hg_succ.specs.Answer.{AreSets, sets_of};
 ghost use Rattle.hg_succ.specs.Numbered.{successors_at, AreRows, IsRow};
 ghost use Rattle.hg_succ.specs.Cover.Known.{are_sets};
 ghost use Rattle.hg_succ.specs.Cover.{IsTable, IsSolved, IsSeveral, HasEntry, PutsLast, Solves, AddsAnswer, answer};
-ghost use Rattle.hg_succ.specs.Cover.{answer_at, entry, families, known_by, sets_at, count_in, count_of, IsKept};
+ghost use Rattle.hg_succ.specs.Cover.{answer_at, entry, families, known_by, sets_at, count_in, count_of, IsNotCounted};
 ghost use Rattle.hg_succ.specs.Plan.{Lists, IsPlan};
 ghost use Rattle.hg_succ.specs.Unions.{with_sets, choices};
-ghost use Rattle.hg_succ.specs.Factors.{factor_in, HasManyWays, FewWays, AllWays, many_at, IsFew, IsOnlySuccessor};
+ghost use Rattle.hg_succ.specs.Factors.{factor_in, HasManyWays, HasWays, AllWays, many_at, IsInLimit, IsOnlySuccessor};
 ghost use Rattle.hg_succ.specs.Factors.{have_none, empties_at};
 ghost use Rattle.hg_succ.specs.Factors.{IsShared};
 
@@ -73,7 +73,7 @@ pub(crate) fn table_of(
 ) -> Result<Table, AllocError>
     ensures table { IfOk result (IsTable (content_of replica.now)) }
     ensures done { IfOk result (λ table. (n : Node) → Contains roots.keys n → HasEntry table n) }
-    ensures sets { asked ≡ Asked.Sets → IfOk result (λ table. (n : Node) → IsKept table n) }
+    ensures sets { asked ≡ Asked.Sets → IfOk result (λ table. (n : Node) → IsNotCounted table n) }
 {
     let Numbered { nodes, rows } = number(alloc, replica, roots)?;
     let order = order(alloc, &rows)?;
@@ -103,7 +103,7 @@ impl Table {
     pub(crate) fn sets(&self, replica: &Replica, node: Node) -> Result<Sets, AllocError>
         requires table { IsTable (content_of replica.now) self.now }
         requires done { IsPredecessor (content_of replica.now) node → HasEntry self.now node }
-        requires kept { IsKept self.now node }
+        requires kept { IsNotCounted self.now node }
         ensures { IfOk result (AreSets (content_of replica.now) node) }
     {
         match self.answer(node) {
@@ -146,9 +146,9 @@ impl Table {
         requires rows { AreRows (content_of replica.now) self.old.nodes.keys (rows_of rows.now) }
         requires order { IsOrder (rows_of rows.now) order.now }
         requires plan { IsPlan replica.now self.old.nodes.keys plan.now }
-        requires kept { (n : Node) → Lists plan.now n → IsKept self.old n }
+        requires kept { (n : Node) → Lists plan.now n → IsNotCounted self.old n }
         ensures table { OnOk result (IsTable (content_of replica.now) self.new) }
-        ensures kept { OnOk result ((n : Node) → Lists plan.now n → IsKept self.new n) }
+        ensures kept { OnOk result ((n : Node) → Lists plan.now n → IsNotCounted self.new n) }
         ensures done { OnOk result ((k : ℕ) (e : Closed) (x : Node) → At order.now k e
             → At self.old.nodes.keys e.node x → HasEntry self.new x) }
     {
@@ -177,9 +177,9 @@ impl Table {
         requires below { cyclic ≡ false → (n y : Node) → At self.old.nodes.keys number n
             → IsRewrittenTo (content_of replica.now) n y → HasEntry self.old y }
         requires plan { IsPlan replica.now self.old.nodes.keys plan.now }
-        requires kept { (n : Node) → Lists plan.now n → IsKept self.old n }
+        requires kept { (n : Node) → Lists plan.now n → IsNotCounted self.old n }
         ensures answer { OnOk result (AddsAnswer (content_of replica.now) number self.old self.new) }
-        ensures kept { OnOk result ((n : Node) → Lists plan.now n → IsKept self.new n) }
+        ensures kept { OnOk result ((n : Node) → Lists plan.now n → IsNotCounted self.new n) }
     {
         let node = self.nodes.as_slice()[number];
         let solved = self.solve(replica, plan, node, row, cyclic)?;
@@ -202,7 +202,7 @@ impl Table {
         requires below { cyclic ≡ false → (y : Node) → IsRewrittenTo (content_of replica.now) node y
             → HasEntry self.old y }
         requires plan { IsPlan replica.now self.old.nodes.keys plan.now }
-        requires kept { (n : Node) → Lists plan.now n → IsKept self.old n }
+        requires kept { (n : Node) → Lists plan.now n → IsNotCounted self.old n }
         requires held { Contains self.old.nodes.keys node }
         ensures solves { IfOk result (Solves (content_of replica.now) node self.old self.new) }
         ensures kept { Lists plan.now node → IfOk result (λ solved. (count : ℕ) → ¬ (solved ≡ Solved.Counted count)) }
@@ -231,16 +231,20 @@ impl Table {
         }
         let found = self.unions(markers, places)?;
         let family = largest(self.alloc, self.nodes.keys(), found)?;
-        self.keep_or_count(plan.lists(node), family)
+        self.sets_or_count(plan.lists(node), family)
     }
 
     // Puts the family last where it is to be kept, and else counts its sets.
-    fn keep_or_count(&mut self, is_kept: bool, family: Vec<Vec<Node>>) -> Result<Solved, AllocError>
+    fn sets_or_count(
+        &mut self,
+        wants_sets: bool,
+        family: Vec<Vec<Node>>,
+    ) -> Result<Solved, AllocError>
         ensures solves { IfOk result (λ solved. (f : Content) (n : Node)
             → IsSolved f n (are_sets (sets_of family.items)) → Solves f n self.old self.new solved) }
-        ensures kept { IsTrue is_kept → IfOk result (λ solved. (count : ℕ) → ¬ (solved ≡ Solved.Counted count)) }
+        ensures kept { IsTrue wants_sets → IfOk result (λ solved. (count : ℕ) → ¬ (solved ≡ Solved.Counted count)) }
     {
-        if is_kept {
+        if wants_sets {
             return self.keep(family);
         }
         Ok(Solved::Counted(family.len()))
@@ -286,7 +290,7 @@ impl Table {
 
     // Whether a node of which this is known has more sets than ways are allowed.
     fn has_many(&self, solved: Solved) -> bool
-        ensures { result ≡ false → IsFew (known_by self.now.families.items solved) }
+        ensures { result ≡ false → IsInLimit (known_by self.now.families.items solved) }
     {
         self.count_of(solved) > UNION_LIMIT
     }
@@ -333,7 +337,7 @@ impl Table {
 
     // How many unions the nodes' sets give, where none of them is overfull and they are 4,096 at most.
     fn ways(&self, nodes: &[Node]) -> Option<usize>
-        ensures few { IfSome result (FewWays self.now nodes.now) }
+        ensures few { IfSome result (HasWays self.now nodes.now) }
         ensures many { IfNone result (HasManyWays self.now nodes.now) }
     {
         let mut product = 1usize;

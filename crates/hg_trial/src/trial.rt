@@ -59,8 +59,16 @@ impl Trial {
         ensures pins { result.now.pins ≡ [] }
         ensures valid { IsValid self.now }
     {
-        self.kept.replica();
+        self.is_valid();
         &self.kept
+    }
+
+    // It says to proofs that what it holds is valid, and does nothing.
+    #[inline(always)]
+    pub(crate) fn is_valid(&self)
+        ensures { IsValid self.now }
+    {
+        self.kept.replica().is_valid();
     }
 
     /// Takes a message in, whole or not at all. It costs what the message says and what that changes, and a copy of the

@@ -45,9 +45,7 @@ pub fn try_messages(alloc: Global, keys: IdKeys, messages: &[&[u8]]) -> Result<T
         tried.trial) }
 {
     let mut trial = Trial::new(alloc, keys)?;
-
-    // The call tells that what it holds is valid.
-    let _ = trial.kept();
+    trial.is_valid();
     let mut answers = Vec::new(alloc);
     for bytes in messages {
         answers.push(trial.answer(*bytes)?)?;

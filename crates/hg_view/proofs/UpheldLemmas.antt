@@ -46,7 +46,7 @@ use Rattle.hg_view.specs.declared.refusal.PinRefusal.TheVariants as pin
 use Rattle.hg_view.specs.Kept.{KeptUnpinAnswer}
 use Rattle.hg_view.specs.Pins.{IsVisibleUnder, PinAnswer, UnpinAnswer}
 use Rattle.hg_view.specs.Released.{IsLeft, IsPinnedBut}
-use Rattle.hg_view.specs.Upheld.{AreApart, AreUpheld, IsUpholding, IsMutableParent}
+use Rattle.hg_view.specs.Upheld.{AreDisjoint, AreUpheld, IsUpholding, IsMutableParent}
 use Rattle.hg_view.proofs.HiddenLemmas.{obsolete-or, visible-not_extinct}
 use Rattle.hg_view.proofs.KeptLemmas.{visible-outside}
 use Rattle.hg_view.proofs.PinLemmas.{visible-pinned, visible-under}
@@ -366,7 +366,7 @@ adds-no_more f upheld old node known = adds-nothing (λ n. (node ≡ n) × IsMut
 
 -- what wasn't upheld is found apart from what is
 pub apart-more : (upheld old new : List Node) (node : Node) → ¬ (Contains upheld node) → new ≡ insert_key old node
-    → AreApart old upheld → AreApart new upheld
+    → AreDisjoint old upheld → AreDisjoint new upheld
 apart-more upheld old new node out is apart n found there = elim (((adds-one old new node is).members n).0 found) [
   | inl before ↦ apart n before there
   | inr e ↦ out (subst (Contains upheld) (sym e) there)
@@ -387,7 +387,7 @@ upheld-same f pins upheld now same are = record {
 }
 
 -- what was put in and is taken out again leaves what there was
-pub taken-back : (old found put left : List Node) → AreApart found old
+pub taken-back : (old found put left : List Node) → AreDisjoint found old
     → ((n : Node) → Contains put n ↔ Contains (old ++ found) n) → ((n : Node) → Contains left n ↔ IsLeft put found n)
     → (n : Node) → Contains left n ↔ Contains old n
 taken-back old found put left apart are lefts n = (

@@ -10,11 +10,11 @@ use Rattle.hg_history.proofs.ContentLemmas.{content-node, node_in_content, leads
 use Rattle.hg_replica.specs.State.{ReplicaState, IsValid}
 use Rattle.hg_replica.specs.Content.{content_of}
 use Rattle.hg_instab.proofs.OrphanLemmas.{selected}
-use Rattle.hg_view.specs.Pins.{CountsAsObsolete, IsShown, IsVisibleUnder}
+use Rattle.hg_view.specs.Pins.{CountsAsObsolete, IsDescendantShown, IsVisibleUnder}
 
 -- the shown changesets and their ancestors are visible
 pub visible-marked : (s : ReplicaState) → IsValid s → (pins : List Node) (shown visible : List Bool)
-    → ((n : Node) → IsMarkedNode (changesets s.history) shown n ↔ IsShown (content_of s) pins n)
+    → ((n : Node) → IsMarkedNode (changesets s.history) shown n ↔ IsDescendantShown (content_of s) pins n)
     → ((n : Node) → IsMarkedNode (changesets s.history) visible n
     ↔ ((d : Node) × IsMarkedNode (changesets s.history) shown d × Reaches (changesets s.history) n d))
     → (n : Node) → IsMarkedNode (changesets s.history) visible n ↔ IsVisibleUnder (content_of s) pins n
@@ -38,6 +38,6 @@ marked-are cs marks found select n =
 -- what is held and doesn't count as obsolete is shown
 pub shown-are : (s : ReplicaState) → IsValid s → (pins : List Node) (n : Node)
     → (Contains (nodes (changesets s.history)) n × ¬ (CountsAsObsolete (content_of s) pins n))
-    ↔ IsShown (content_of s) pins n
+    ↔ IsDescendantShown (content_of s) pins n
 shown-are s valid pins n =
     (λ h. (content-node s.history valid.graph n h.0, h.1), λ h. (node_in_content s.history valid.graph n h.0, h.1))

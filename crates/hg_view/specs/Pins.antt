@@ -16,12 +16,12 @@ abbrev pub CountsAsObsolete : Content → List Node → Node → Type 0
 CountsAsObsolete f pins n = IsObsolete f n × ¬ (Contains pins n)
 
 -- held, and not obsolete or pinned: it stays in view, and keeps its ancestors there
-abbrev pub IsShown : Content → List Node → Node → Type 0
-IsShown f pins n = IsHeld f.0 n × ¬ (CountsAsObsolete f pins n)
+abbrev pub IsDescendantShown : Content → List Node → Node → Type 0
+IsDescendantShown f pins n = IsHeld f.0 n × ¬ (CountsAsObsolete f pins n)
 
 -- it, or a descendant of it, is shown
 abbrev pub IsVisibleUnder : Content → List Node → Node → Type 0
-IsVisibleUnder f pins n = (d : Node) × IsShown f pins d × Leads f.0 n d
+IsVisibleUnder f pins n = (d : Node) × IsDescendantShown f pins d × Leads f.0 n d
 
 -- held, and not visible
 abbrev pub IsHiddenUnder : Content → List Node → Node → Type 0

@@ -21,8 +21,8 @@ pub record AreUpheld (f : Content) (pins upheld : List Node) : Type 0 where
   pub closed : (n : Node) → HasChildAmong f upheld n → IsMutable f n → Contains upheld n
 
 -- none of the first is among the second
-abbrev pub AreApart : List Node → List Node → Type 0
-AreApart ms ns = (n : Node) → Contains ms n → ¬ (Contains ns n)
+abbrev pub AreDisjoint : List Node → List Node → Type 0
+AreDisjoint ms ns = (n : Node) → Contains ms n → ¬ (Contains ns n)
 
 -- a parent of it that isn't public
 abbrev pub IsMutableParent : Content → Node → Node → Type 0

@@ -94,8 +94,7 @@ impl Kept {
         let instabilities = Instabilities::from_scratch(alloc, &replica)?;
         let heads = HeadPlaces::of(alloc, &replica)?;
 
-        // The call tells that the replica is valid.
-        let _ = replica.graph();
+        replica.is_valid();
         Ok(Kept {
             alloc,
             replica,
@@ -347,8 +346,7 @@ impl Kept {
         ensures closed { IsClosedUnderParents (changesets self.now.replica.history)
             (IsCommonAt self.now.replica other.now) }
     {
-        // It says that the other's replica is valid.
-        let _ = other.replica();
+        other.replica().is_valid();
         heads_in_common(self.alloc, &self.replica, other, self.heads.all())
     }
 
@@ -366,8 +364,7 @@ impl Kept {
         ensures { (n : Node) → IsServedUnder (content_of self.now.replica) self.now.pins n
             ⊎ ¬ (IsServedUnder (content_of self.now.replica) self.now.pins n) }
     {
-        // It says that the replica is valid.
-        let _ = self.replica.graph();
+        self.replica.is_valid();
     }
 }
 

@@ -11,7 +11,7 @@ ghost use Rattle.hg_replica.specs.State.{IsValid};
 ghost use Rattle.hg_replica.specs.Content.{content_of};
 ghost use Rattle.hg_replica.specs.Evolution.{IsMutable};
 ghost use Rattle.hg_instab.specs.Walk.{Adds};
-ghost use Rattle.hg_view.specs.Upheld.{AreApart, AreUpheld, IsUpholding, IsMutableParent};
+ghost use Rattle.hg_view.specs.Upheld.{AreDisjoint, AreUpheld, IsUpholding, IsMutableParent};
 
 use crate::released::take_out;
 use hg_changeset::Node;
@@ -30,7 +30,7 @@ pub(crate) fn upheld_besides(
     node: Node,
 ) -> Result<NodeSet, AllocError>
     requires { (n : Node) → Contains upheld.now.keys n → IsHeld (content_of replica.now).0 n }
-    ensures apart { IfOk result (λ found. AreApart found.keys upheld.now.keys) }
+    ensures disjoint { IfOk result (λ found. AreDisjoint found.keys upheld.now.keys) }
     ensures upheld { IfOk result (λ found. (pins more : List Node)
         → AreUpheld (content_of replica.now) pins upheld.now.keys
         → ((n : Node) → Contains more n ↔ (Contains pins n ⊎ (node ≡ n))) → IsHeld (content_of replica.now).0 node
@@ -44,7 +44,7 @@ pub(crate) fn upheld_besides(
 
 // Puts all of them in. Where memory is refused none is there.
 pub(crate) fn put_in(upheld: &mut BTreeSet<Node>, found: &NodeSet) -> Result<(), AllocError>
-    requires { AreApart found.now.keys upheld.old.keys }
+    requires { AreDisjoint found.now.keys upheld.old.keys }
     ensures ok { OnOk result ((n : Node) → Contains upheld.new.keys n
         ↔ Contains (upheld.old.keys ++ found.now.keys) n) }
     ensures err { OnErr result ((n : Node) → Contains upheld.new.keys n ↔ Contains upheld.old.keys n) }
@@ -68,7 +68,8 @@ fn hang_below(
     found: &mut NodeSet,
 ) -> Result<(), AllocError>
     requires { (n : Node) → Contains (upheld.now.keys ++ found.old.keys) n → IsHeld (content_of replica.now).0 n }
-    ensures apart { OnOk result (AreApart found.old.keys upheld.now.keys → AreApart found.new.keys upheld.now.keys) }
+    ensures disjoint { OnOk result (AreDisjoint found.old.keys upheld.now.keys
+        → AreDisjoint found.new.keys upheld.now.keys) }
     ensures ok { OnOk result ((pins : List Node)
         → IsUpholding (content_of replica.now) pins upheld.now.keys (upheld.now.keys ++ found.old.keys)
         (length upheld.now.keys)
@@ -92,7 +93,8 @@ fn add_parents(
     found: &mut NodeSet,
 ) -> Result<(), AllocError>
     ensures valid { IsValid replica.now }
-    ensures apart { OnOk result (AreApart found.old.keys upheld.now.keys → AreApart found.new.keys upheld.now.keys) }
+    ensures disjoint { OnOk result (AreDisjoint found.old.keys upheld.now.keys
+        → AreDisjoint found.new.keys upheld.now.keys) }
     ensures ok { OnOk result (Adds (IsMutableParent (content_of replica.now) node)
         (upheld.now.keys ++ found.old.keys) (upheld.now.keys ++ found.new.keys)) }
 {
@@ -114,7 +116,8 @@ fn add_at(
     place: Option<usize>,
     found: &mut NodeSet,
 ) -> Result<(), AllocError>
-    ensures apart { OnOk result (AreApart found.old.keys upheld.now.keys → AreApart found.new.keys upheld.now.keys) }
+    ensures disjoint { OnOk result (AreDisjoint found.old.keys upheld.now.keys
+        → AreDisjoint found.new.keys upheld.now.keys) }
     ensures ok { OnOk result (Adds (λ n. (k : ℕ) × (place ≡ Some k) × IsAt (changesets replica.now.history) n k
         × IsMutable (content_of replica.now) n) (upheld.now.keys ++ found.old.keys)
         (upheld.now.keys ++ found.new.keys)) }
@@ -135,7 +138,8 @@ fn add_mutable(
     node: Node,
     found: &mut NodeSet,
 ) -> Result<(), AllocError>
-    ensures apart { OnOk result (AreApart found.old.keys upheld.now.keys → AreApart found.new.keys upheld.now.keys) }
+    ensures disjoint { OnOk result (AreDisjoint found.old.keys upheld.now.keys
+        → AreDisjoint found.new.keys upheld.now.keys) }
     ensures ok { OnOk result (Adds (λ n. (node ≡ n) × IsMutable (content_of replica.now) n)
         (upheld.now.keys ++ found.old.keys) (upheld.now.keys ++ found.new.keys)) }
 {

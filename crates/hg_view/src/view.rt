@@ -6,7 +6,7 @@ ghost use Rattle.hg_phases.specs.State.{changesets};
 ghost use Rattle.hg_replica.specs.Content.{content_of};
 ghost use Rattle.hg_replica.specs.Evolution.{HasPhase};
 ghost use Rattle.hg_phases.specs.declared.phase.Phase.TheVariants.{Secret as secret_phase};
-ghost use Rattle.hg_view.specs.Pins.{IsServedUnder, IsShown, IsVisibleUnder};
+ghost use Rattle.hg_view.specs.Pins.{IsServedUnder, IsDescendantShown, IsVisibleUnder};
 
 use crate::pins::{Pins, counts_as_obsolete_at};
 use hg_changeset::Node;
@@ -70,7 +70,7 @@ fn visible_marks(alloc: Global, replica: &Replica, pins: &Pins) -> Result<Vec<bo
 fn shown_marks(alloc: Global, replica: &Replica, pins: &Pins) -> Result<Vec<bool>, AllocError>
     ensures len { IfOk result (λ marks. length marks.items ≡ length (changesets replica.now.history)) }
     ensures exact { IfOk result (λ marks. (n : Node) → IsMarkedNode (changesets replica.now.history) marks.items n
-        ↔ IsShown (content_of replica.now) pins.now n) }
+        ↔ IsDescendantShown (content_of replica.now) pins.now n) }
 {
     let graph = replica.graph();
     let mut marks = Vec::with_capacity(alloc, graph.len())?;

@@ -3,7 +3,7 @@ use Rattle.std.proofs.lemmas.List.{take_all}
 use Rattle.hg_changeset.specs.declared.node.Node.{Node}
 use Rattle.hg_changeset.proofs.ListLemmas.{Contains-none}
 use Rattle.hg_replica.specs.Content.{content_of}
-use Rattle.hg_instab.specs.Quick.{IsApart}
+use Rattle.hg_instab.specs.Quick.{IsInNoSet}
 use Rattle.hg_instab.specs.Quick.{IsStable, AreUnchanged}
 use Rattle.hg_instab.proofs.AmongLemmas.{also-taken}
 use Rattle.hg_instab.proofs.quick.are_unchanged.Goals as goal
@@ -17,7 +17,7 @@ loop-node-preserved c =
     let also = also-taken c.args.lowered.now c.loop-node.node-index first c.loop-node-test.true in
     λ n h. elim ((also n).0 h) [
       | inl old ↦ c.loop-node.invariant n old
-      | inr e ↦ subst (λ x. IsStable (content_of c.args.replica.now) c.args.sets.now x × IsApart c.args.sets.now x) e
+      | inr e ↦ subst (λ x. IsStable (content_of c.args.replica.now) c.args.sets.now x × IsInNoSet c.args.sets.now x) e
           (c.is_unchanged.ensures c.if-not-is_unchanged.false)
     ]
 

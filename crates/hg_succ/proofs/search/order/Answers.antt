@@ -1,7 +1,7 @@
 use Rattle.std.proofs.Common.{◌≡◌, arith, subst, inl, inr}
 use Rattle.std.proofs.lemmas.Bool.{cases_lt}
 use Rattle.std.proofs.lemmas.List.{length-map}
-use Rattle.hg_succ.specs.declared.search.Mark.TheVariants.{New}
+use Rattle.hg_succ.specs.declared.search.Progress.TheVariants.{New}
 use Rattle.hg_succ.specs.Rows.{rows_of, At}
 use Rattle.hg_succ.specs.Search.{state_of}
 use Rattle.hg_succ.proofs.SearchLemmas.{all_listed}

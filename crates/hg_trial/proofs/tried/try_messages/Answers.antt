@@ -24,6 +24,6 @@ returns-clause-answers c =
 pub returns-clause-least : goal.returns-clause-least
 returns-clause-least c =
     answers_least c.loop-bytes.trial _ c.loop-bytes.answers.items
-    (subst IsValid c.in_ok-trial.ensures c.kept.ensures.valid)
+    (subst IsValid c.in_ok-trial.ensures c.is_valid.ensures)
     (all_answered nothing_held c.loop-bytes.trial c.args.messages.now c.loop-bytes.bytes-index
     c.loop-bytes.answers.items c.loop-bytes-test.false c.loop-bytes.invariant)

@@ -21,8 +21,8 @@ returns-then-contains-clause-ok c =
           absurd (true≢false (sym (w.is_mutable.ensures.1 mutable) ∙ w.if-not-is_mutable.true))
     ])
 
-pub returns-clause-apart : goal.returns-clause-apart
-returns-clause-apart c =
+pub returns-clause-disjoint : goal.returns-clause-disjoint
+returns-clause-disjoint c =
     let upheld = c.args.upheld.now.keys in
     let node = c.args.node in
     let there : IsTrue c.contains.result ↔ Contains upheld node =

@@ -13,9 +13,9 @@ parent_places-parents-requires c =
     placed_within c.graph-graph.result.now c.args.node c.in-Some.place
     ((c.in-Some.ensures.place c.in-Some.place).1 refl)
 
-pub returns-in_ok-add_at-in-Some-clause-apart : goal.returns-in_ok-add_at-in-Some-clause-apart
-returns-in_ok-add_at-in-Some-clause-apart c = on_ok_weaker c.add_at-in-Some.result
-    (λ more start. more (c.in_ok-add_at-in-Some.ensures.apart start)) c.add_at-in-Some.ensures.apart
+pub returns-in_ok-add_at-in-Some-clause-disjoint : goal.returns-in_ok-add_at-in-Some-clause-disjoint
+returns-in_ok-add_at-in-Some-clause-disjoint c = on_ok_weaker c.add_at-in-Some.result
+    (λ more start. more (c.in_ok-add_at-in-Some.ensures.disjoint start)) c.add_at-in-Some.ensures.disjoint
 
 pub returns-in_ok-add_at-in-Some-clause-ok : goal.returns-in_ok-add_at-in-Some-clause-ok
 returns-in_ok-add_at-in-Some-clause-ok c =

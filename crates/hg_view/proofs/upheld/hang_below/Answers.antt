@@ -39,7 +39,7 @@ loop-next-preserved c =
         | inl old ↦ c.loop-next.invariant.held n old
         | inr parent ↦ (parent.1.0, parent.1.1)
       ];
-      apart = λ start. c.in_ok-add_parents.ensures.apart (c.loop-next.invariant.apart start);
+      apart = λ start. c.in_ok-add_parents.ensures.disjoint (c.loop-next.invariant.apart start);
       upholds = λ pins start. subst (IsUpholding f pins U (U ++ new)) next
           (upholding-step f pins U (U ++ seen) (U ++ new) (length U + i) node within at
           (c.loop-next.invariant.upholds pins start) adds);

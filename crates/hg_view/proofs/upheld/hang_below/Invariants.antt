@@ -4,13 +4,13 @@ use Rattle.hg_graph.specs.Graph.{nodes}
 use Rattle.hg_phases.specs.State.{changesets}
 use Rattle.hg_history.specs.Content.{IsHeld}
 use Rattle.hg_replica.specs.Content.{content_of}
-use Rattle.hg_view.specs.Upheld.{AreApart, IsUpholding}
+use Rattle.hg_view.specs.Upheld.{AreDisjoint, IsUpholding}
 use Rattle.hg_view.proofs.upheld.hang_below.Given as goal
 
 abbrev pub invariant-loop-next : goal.invariant-loop-next
 invariant-loop-next l = record {
   held : (n : Node) → Contains (l.upheld.keys ++ l.found.keys) n → IsHeld (content_of l.replica).0 n;
-  apart : AreApart l.fn.found.keys l.upheld.keys → AreApart l.found.keys l.upheld.keys;
+  apart : AreDisjoint l.fn.found.keys l.upheld.keys → AreDisjoint l.found.keys l.upheld.keys;
   upholds : (pins : List Node) → IsUpholding (content_of l.replica) pins l.upheld.keys
       (l.upheld.keys ++ l.fn.found.keys) (length l.upheld.keys)
       → IsUpholding (content_of l.replica) pins l.upheld.keys (l.upheld.keys ++ l.found.keys)

@@ -18,8 +18,8 @@ hang_below-requires c n h =
     (ap (λ ns. U ++ ns) c.with_keys-found.ensures ∙ append-nil U) c.in_ok-add_mutable.ensures.ok in
     elim ((adds.members n).0 h) [ inl old ↦ c.requires n old | inr new ↦ (new.1.0, new.1.1) ]
 
-pub returns-clause-apart : goal.returns-clause-apart
-returns-clause-apart c = c.in_ok-hang_below.ensures.apart (c.in_ok-add_mutable.ensures.apart
+pub returns-clause-disjoint : goal.returns-clause-disjoint
+returns-clause-disjoint c = c.in_ok-hang_below.ensures.disjoint (c.in_ok-add_mutable.ensures.disjoint
     (λ n h. absurd (Contains-none n (subst (λ ns. Contains ns n) c.with_keys-found.ensures h))))
 
 pub returns-clause-upheld : goal.returns-clause-upheld

@@ -5,4 +5,4 @@ use Rattle.hg_message.proofs.layout.Layout.part.Goals as goal
 pub returns-in-Ok-clause-memory : goal.returns-in-Ok-clause-memory
 returns-in-Ok-clause-memory c e =
     inl (some_records c.args.self.now c.in-Ok.message c.in-Ok.ensures.exact
-    (wanted c.taken_apart.result c.taken_apart.ensures.memory e))
+    (wanted c.part_of_message.result c.part_of_message.ensures.memory e))

@@ -3,7 +3,7 @@ use Rattle.std.proofs.lemmas.List.{get_or_default, take_all}
 use Rattle.hg_changeset.specs.declared.node.Node.{Node}
 use Rattle.hg_succ.specs.Numbered.{successors_at}
 use Rattle.hg_succ.specs.Cover.{NoneOverfull}
-use Rattle.hg_succ.specs.Factors.{HasManyWays, FewWays, ways_at, many_at}
+use Rattle.hg_succ.specs.Factors.{HasManyWays, HasWays, ways_at, many_at}
 use Rattle.hg_succ.proofs.FactorLemmas.{stops_there, sum_stops, sum_goes_on}
 use Rattle.hg_succ.proofs.families.Table.all_ways.Goals as goal
 
@@ -33,7 +33,7 @@ returns-then-sum-gt-UNION_LIMIT-clause-many c =
     sum_stops c.args.self.now markers places i place c.loop-place-test.true
     (get_or_default places i 0 place c.loop-place-test.true) c.loop-place.sum c.in_ok-sum.field-0
     c.loop-place.invariant.so_far
-    (subst (λ (xs : List Node). FewWays c.args.self.now xs c.in_ok-sum.field-0) ns c.in_ok-sum.ensures.few)
+    (subst (λ (xs : List Node). HasWays c.args.self.now xs c.in_ok-sum.field-0) ns c.in_ok-sum.ensures.few)
     c.if-sum-gt-UNION_LIMIT.true
 
 pub loop-place-preserved : goal.loop-place-preserved
@@ -47,7 +47,7 @@ loop-place-preserved c =
       so_far = sum_goes_on c.args.self.now markers places i place c.loop-place-test.true
           (get_or_default places i 0 place c.loop-place-test.true) c.loop-place.sum c.in_ok-sum.field-0
           c.loop-place.invariant.so_far
-          (subst (λ (xs : List Node). FewWays c.args.self.now xs c.in_ok-sum.field-0) ns c.in_ok-sum.ensures.few);
+          (subst (λ (xs : List Node). HasWays c.args.self.now xs c.in_ok-sum.field-0) ns c.in_ok-sum.ensures.few);
       few = c.if-sum-gt-UNION_LIMIT.false;
     }
 

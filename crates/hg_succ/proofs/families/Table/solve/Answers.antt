@@ -181,8 +181,8 @@ returns-clause-solves c =
     let solved = solved_few s t c.requires.table _ (off h) (c.requires.below c.if-cyclic.false) (different h) _ (are h)
     (ways found (same h)).few (λ x to. c.requires.kept x (c.requires.plan.closed n x unites to)) (some found (are h))
     family largest in
-    IfOk-weaker c.keep_or_count.result _ (Solves (content_of s) n t c.keep_or_count.new.self)
-    (λ e told. told (content_of s) n solved) c.keep_or_count.ensures.solves
+    IfOk-weaker c.sets_or_count.result _ (Solves (content_of s) n t c.sets_or_count.new.self)
+    (λ e told. told (content_of s) n solved) c.sets_or_count.ensures.solves
 
 pub returns-clause-kept : goal.returns-clause-kept
-returns-clause-kept c lists = c.keep_or_count.ensures.kept (c.lists.ensures.1 lists)
+returns-clause-kept c lists = c.sets_or_count.ensures.kept (c.lists.ensures.1 lists)

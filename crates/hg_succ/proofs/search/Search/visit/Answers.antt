@@ -1,7 +1,7 @@
 use Rattle.std.proofs.Common.{◌<◌, length, arith, sym, subst, refl, inl}
 use Rattle.std.proofs.lemmas.List.{length-map}
 use Rattle.std.proofs.lemmas.Option.{slice_get_read}
-use Rattle.hg_succ.specs.declared.search.Mark.TheVariants.{New}
+use Rattle.hg_succ.specs.declared.search.Progress.TheVariants.{New}
 use Rattle.hg_succ.specs.Rows.{rows_of, At}
 use Rattle.hg_succ.specs.Search.{state_of, IsSearch, SearchState, StaysMet}
 use Rattle.hg_succ.proofs.ListLemmas.{get_one}

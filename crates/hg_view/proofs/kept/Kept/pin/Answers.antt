@@ -100,6 +100,6 @@ invariant_of-self-in-Err c =
       c.self.invariant.1,
       subst (λ (ns : List Node). AreUpheld f ns c.take_out.new.upheld.keys) (sym same)
           (upheld-same _ _ _ _ (taken-back _ _ _
-          _ c.in_ok-found.ensures.apart c.in_ok-put_in.ensures.ok c.take_out.ensures) c.self.invariant.2),
+          _ c.in_ok-found.ensures.disjoint c.in_ok-put_in.ensures.ok c.take_out.ensures) c.self.invariant.2),
       c.self.invariant.3,
     )

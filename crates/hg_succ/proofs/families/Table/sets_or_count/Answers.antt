@@ -8,17 +8,17 @@ use Rattle.hg_succ.specs.Cover.{IsSolved, PutsLast, Solves}
 use Rattle.hg_succ.specs.Cover.Known.{are_sets}
 use Rattle.hg_succ.proofs.SolveLemmas.{length_sets}
 use Rattle.hg_succ.proofs.TableLemmas.{solves_same, solves_last, last_kept}
-use Rattle.hg_succ.proofs.families.Table.keep_or_count.Goals as goal
+use Rattle.hg_succ.proofs.families.Table.sets_or_count.Goals as goal
 
-pub returns-then-is_kept-clause-solves : goal.returns-then-is_kept-clause-solves
-returns-then-is_kept-clause-solves c =
+pub returns-then-wants_sets-clause-solves : goal.returns-then-wants_sets-clause-solves
+returns-then-wants_sets-clause-solves c =
     IfOk-weaker c.keep.result (PutsLast c.args.family c.args.self.now c.keep.new.self)
     (λ e. (f : Content) (n : Node) → IsSolved f n (are_sets (sets_of c.args.family.items))
     → Solves f n c.args.self.now c.keep.new.self e)
     (λ e put f n solved. solves_last f n c.args.self.now c.keep.new.self c.args.family e solved put) c.keep.ensures
 
-pub returns-then-is_kept-clause-kept : goal.returns-then-is_kept-clause-kept
-returns-then-is_kept-clause-kept c t =
+pub returns-then-wants_sets-clause-kept : goal.returns-then-wants_sets-clause-kept
+returns-then-wants_sets-clause-kept c t =
     IfOk-weaker c.keep.result (PutsLast c.args.family c.args.self.now c.keep.new.self)
     (λ e. (count : ℕ) → ¬ (e ≡ Counted count))
     (λ e put. last_kept c.args.self.now c.keep.new.self c.args.family e put) c.keep.ensures

@@ -10,14 +10,14 @@ use std::collections::BTreeMap;
 
 // By the place of a changeset, which of its children it was, in their order.
 #[derive(Drop)]
-pub(crate) struct Holders {
+pub(crate) struct ChildHints {
     indexes: BTreeMap<usize, usize>,
 }
 
-impl Holders {
+impl ChildHints {
     // None is known.
-    pub(crate) fn new(alloc: Global) -> Holders {
-        Holders {
+    pub(crate) fn new(alloc: Global) -> ChildHints {
+        ChildHints {
             indexes: BTreeMap::new(alloc),
         }
     }

@@ -2,13 +2,13 @@ use Rattle.std.proofs.Common.{IsTrue, Contains, ◌↔◌, subst}
 use Rattle.std.proofs.lemmas.Map.Views.{btree_set_contains_iff}
 use Rattle.hg_changeset.proofs.NodeLemmas.{node_cmp_total, node_cmp_exact}
 use Rattle.hg_rewrite.proofs.OrphanLemmas.{not_below_orphan, apart_linear}
-use Rattle.hg_rewrite.proofs.check.is_apart.Goals as goal
+use Rattle.hg_rewrite.proofs.check.is_clear_relocation.Goals as goal
 
 pub returns-then-is_clear_of_orphans : goal.returns-then-is_clear_of_orphans
 returns-then-is_clear_of_orphans c = λ clear.
     let s = c.args.kept.now.replica in
     let node = c.in-Relocate.node in
-    let valid = c.replica-replica.ensures.valid in
+    let valid = c.replica.ensures.valid in
     let there : IsTrue c.contains.result ↔ Contains c.orphan.result.now.keys node =
     rw c.contains.ensures (btree_set_contains_iff node_cmp_total node_cmp_exact c.orphan.result.now node) in
     let orphan = (c.instabilities.ensures.orphan node).0

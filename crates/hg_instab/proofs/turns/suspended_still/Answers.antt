@@ -4,7 +4,7 @@ use Rattle.hg_replica.specs.Content.{content_of}
 use Rattle.hg_replica.specs.Evolution.{IsObsolete}
 use Rattle.hg_instab.specs.Changed.{IsNow}
 use Rattle.hg_instab.proofs.AmongLemmas.{those-divided, told-alike}
-use Rattle.hg_instab.proofs.turns.still_kept.Goals as goal
+use Rattle.hg_instab.proofs.turns.suspended_still.Goals as goal
 
 pub returns : goal.returns
 returns c = IfOk-weaker c.among.result

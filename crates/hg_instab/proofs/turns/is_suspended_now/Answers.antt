@@ -1,5 +1,5 @@
 use Rattle.std.proofs.Common.{true≢false, not, ap, sym, ◌∙◌}
-use Rattle.hg_instab.proofs.turns.is_kept.Goals as goal
+use Rattle.hg_instab.proofs.turns.is_suspended_now.Goals as goal
 
 pub returns-then-not-has_now : goal.returns-then-not-has_now
 returns-then-not-has_now c = (
