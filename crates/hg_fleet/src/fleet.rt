@@ -3,6 +3,7 @@ ghost use Rattle.std.specs.Prelude.{◌≡◌, ◌<◌, ◌⊎◌, [], None, Opt
 ghost use Rattle.std.specs.Prelude.{slice_get};
 ghost use Rattle.std.specs.Option.{option_copied};
 ghost use Rattle.hg_replica.specs.Least.{PartValue};
+ghost use Rattle.hg_world.specs.declared.event.Event.TheVariants.{Local};
 ghost use Rattle.hg_world.specs.Runs.{AllEmpty, AllUnmarked, AllValid, Happens, IsOffer, snapshot};
 ghost use Rattle.hg_peer.specs.Words.{peer_state, peer_words};
 ghost use Rattle.hg_discovery.specs.Between.{AreHeadsInCommon};
@@ -17,6 +18,7 @@ use hg_discovery::{Compared, heads_in_common_compared};
 use hg_join::NoMemory;
 use hg_node_set::IdKeys;
 use hg_peer::{Ask, Peer, Scope, world_with_keys};
+use hg_rewrite::Op;
 use hg_view::Kept;
 use hg_world::{Answer, Event, World};
 use std::alloc::Global;
@@ -117,6 +119,18 @@ impl Fleet {
         ensures memory { OnErr result (IsOffer event.now) }
     {
         self.world.run_one(event)
+    }
+
+    /// The peer at a place decides an operation, and takes its part in. It gives the answer to that event of the world,
+    /// before which no memory runs out.
+    pub fn local(&mut self, at: usize, op: Op) -> PeerAnswer
+        ensures { (part : Option PartValue)
+            × Happens peer_state peer_words self.old (Local at op) result part self.new }
+    {
+        match self.run_one(&Event::Local { at, op }) {
+            Ok(answer) => answer,
+            Err(_) => unreachable!(),
+        }
     }
 
     /// The taker takes in what the giver offers of a scope: of what it serves, what stands above the heads that both

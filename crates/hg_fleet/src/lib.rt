@@ -4,8 +4,8 @@
 //! So one can ask the other for exactly what it lacks: [`Fleet::pull`] finds the heads of what both have in common
 //! ([`hg_discovery`]), lets the giver offer what it serves above them, and lets the taker take that in. Two peers that
 //! pull often compare each changeset once. A pull of the whole scope, a share, offers everything but what is secret.
-//! All else is [`Fleet::run_one`] of an event ([`hg_world`]): `Event::Local` of an operation, `Event::Offer` and
-//! `Event::Take` of a message that comes late, again or never, and `Event::Mark` of a pin.
+//! An operation of a peer's own is [`Fleet::local`]. All else is [`Fleet::run_one`] of an event ([`hg_world`]):
+//! `Event::Offer` and `Event::Take` of a message that comes late, again or never, and `Event::Mark` of a pin.
 //!
 //! # What holds
 //!
@@ -22,7 +22,7 @@
 //!     // Two empty peers, without pins, and no message.
 //!     let mut fleet = Fleet::new(alloc, keys, 2)?;
 //!     // What a peer refuses changes nothing, and the answer says why.
-//!     fleet.run_one(&Event::Local { at: 0, op })?;
+//!     fleet.local(0, op);
 //!     // The peer at place 1 takes in what the one at place 0 serves and it lacks: the offer's answer, and that of the
 //!     // taking. It would be `None` if there were no peer at one of the places.
 //!     fleet.pull(1, 0, Scope::Served)?;

@@ -1,5 +1,5 @@
 -- What calls answer that would change a node.
-use Rattle.std.proofs.Common.{◌≡◌, ℕ, ◌⊎◌, inl, inr, List, Result, Ok, Err, IfErr, refl}
+use Rattle.std.proofs.Common.{◌≡◌, ℕ, ◌⊎◌, inl, inr, List, Result, Ok, Err, IfErr, refl, subst}
 use Rattle.hg_history.specs.declared.fault.Fault.{Fault as PartFault}
 use Rattle.hg_history.specs.declared.fault.Fault.TheVariants as fault
 use Rattle.hg_replica.specs.Least.{PartValue}
@@ -13,13 +13,13 @@ use Rattle.hg_peer.specs.declared.mark.Mark.{Mark as MarkValue}
 use Rattle.hg_peer.specs.declared.refusal.PeerRefusal.{PeerRefusal}
 use Rattle.hg_peer.specs.declared.refusal.PeerRefusal.TheVariants as peer
 use Rattle.hg_peer.specs.Marks.{IsAgainstMark, ChangesPins}
-use Rattle.hg_peer.specs.Peers.{Decides, IsAgainstOperation, SpellsPart, IsMemory}
+use Rattle.hg_peer.specs.Peers.{Decides, IsAgainstOperation, SpellsPart, IsAgainstBytes, IsMemory, ReadMayWantMemory}
 use Rattle.hg_live.specs.declared.answer.CallRefusal.{CallRefusal}
 use Rattle.hg_live.specs.declared.answer.CallRefusal.TheVariants.{JournalFull, Refused, Fault, NoMemory}
 use Rattle.hg_live.specs.declared.entry.Entry.TheVariants.{Part, Mark}
 use Rattle.hg_live.specs.NodeRefusals.{call_refusal, call_fault}
 use Rattle.hg_live.specs.NodeViews.{DeskView}
-use Rattle.hg_live.specs.Calls.{IsAgainstEntry, IsNotEntered, IsAgainstLocal, IsAgainstTake}
+use Rattle.hg_live.specs.Calls.{IsAgainstEntry, IsNotEntered, IsAgainstLocal, IsAgainstTake, PartMayWantMemory}
 
 -- ---- what the peer refuses, as a call tells it
 
@@ -45,13 +45,25 @@ operation_told d op peer.NoMemory h memory = inl (memory refl)
 operation_told d op r (inl h) memory = h
 operation_told d op r (inr e) memory = absurd (cc (e))
 
+-- bytes, and want of memory where reading them may want it
+pub bytes_told : (d : DeskView) (bytes : List ℕ) (r : PeerRefusal) → IsAgainstBytes bytes r ⊎ IsMemory r →
+    (r ≡ peer.NoMemory → ReadMayWantMemory bytes) → IsAgainstTake d bytes (call_refusal r)
+bytes_told d bytes peer.NoMemory h memory = let wants = memory refl in (wants.1.0, wants.1.1, inl wants)
+bytes_told d bytes r (inl h) memory = h
+bytes_told d bytes r (inr e) memory = absurd (cc (e))
+
 -- ---- an entry that is refused once it was found
+
+-- memory was wanting for the entry of a part
+entry_wants : (d : DeskView) (k : PartValue) → IsNotEntered d (Part k) NoMemory → PartMayWantMemory d k
+entry_wants d k (inl grows) = inl grows
+entry_wants d k (inr room) = inr room.1
 
 -- what was decided is admitted, so only memory can be wanting for it
 pub decided_told : (d : DeskView) (op : Op) (k : PartValue) (r : CallRefusal) →
     IsValidContent (content_of d.working.replica) → Decides d.working op k →
     ContentAdmits (content_of d.working.replica) k → IsNotEntered d (Part k) r → IsAgainstLocal d op r
-decided_told d op k NoMemory valid so admitted h = inr (k, so)
+decided_told d op k NoMemory valid so admitted h = inr (k, so, entry_wants d k h)
 decided_told d op k JournalFull valid so admitted (inl h) = absurd h
 decided_told d op k (Refused r) valid so admitted (inl h) = absurd h
 decided_told d op k (Fault f) valid so admitted (inl h) =
@@ -60,7 +72,8 @@ decided_told d op k r valid so admitted (inr h) = absurd (cc (h.0))
 
 pub read_told : (d : DeskView) (bytes : List ℕ) (k : PartValue) (r : CallRefusal) → SpellsPart bytes k →
     IsNotEntered d (Part k) r → IsAgainstTake d bytes r
-read_told d bytes k NoMemory so h = (so.0, so.1)
+read_told d bytes k NoMemory so h =
+    (so.0, so.1, inr (subst (PartMayWantMemory d) so.2 (entry_wants d k h)))
 read_told d bytes k JournalFull so (inl h) = absurd h
 read_told d bytes k (Refused r) so (inl h) = absurd h
 read_told d bytes k (Fault f) so (inl h) = (k, so, h)

@@ -1,5 +1,5 @@
 -- What a node tells of an offer.
-use Rattle.std.proofs.Common.{ℕ, List, Result, Ok, Err, sym, subst}
+use Rattle.std.proofs.Common.{ℕ, List, Result, Ok, Err, inl, inr, sym, subst}
 use Rattle.std.specs.declared.vec.Vec.{Vec}
 use Rattle.std.specs.declared.alloc.Global.{Global}
 use Rattle.hg_changeset.specs.declared.node.Node.{Node}
@@ -23,11 +23,11 @@ found_told s common scope m (Ok bytes) valid found w = (valid, (m, found, w.0, w
 found_told s common scope m (Err offer.NotEntered) valid found w = absurd w
 found_told s common scope m (Err (offer.Refused refusal)) valid found w =
     subst (IsAgainstOffering s common scope) (sym w.0) (found.0, (m, found.1, w.1))
-found_told s common scope m (Err offer.NoMemory) valid found w = found.0
+found_told s common scope m (Err offer.NoMemory) valid found w = (found.0, inr (m, found.1, w))
 
 -- nothing was found
 pub refusal_told : (s : KeptValue) (common : List Node) (scope : Scope) (r : OfferRefusal) →
     FindAnswer s.replica s.pins common scope (Err r) → StateOffers s common scope (Err (not_offered r))
 refusal_told s common scope (message.UnknownCommon node) h = h
 refusal_told s common scope message.TooLarge h = absurd h
-refusal_told s common scope message.NoMemory h = h.0
+refusal_told s common scope message.NoMemory h = (h.0, inl h.1)

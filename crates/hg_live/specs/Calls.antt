@@ -1,5 +1,5 @@
 -- What calls answer that would change a node.
-use Rattle.std.specs.Prelude.{◌≡◌, ◌+◌, ◌≤◌, ◌^◌, ◌⊎◌, ℕ, List, [], ◌∷◌, ◌++◌, length, All, Ok}
+use Rattle.std.specs.Prelude.{◌≡◌, ◌+◌, ◌≤◌, ◌⊎◌, ℕ, List, [], ◌∷◌, ◌++◌, length, All, Ok}
 use Rattle.std.specs.List.{sum_by}
 use mathlib.Core.List.{IsPrefix}
 use Rattle.hg_replica.specs.Least.{PartValue}
@@ -10,9 +10,10 @@ use Rattle.hg_rewrite.specs.declared.op.Op.{Op}
 use Rattle.hg_rewrite.specs.Memory.{MayWantMemory}
 use Rattle.hg_message.specs.Value.{MessageValue}
 use Rattle.hg_message.specs.Message.{message_at}
+use Rattle.hg_message.specs.Part.{part_of as message_part}
 use Rattle.hg_peer.specs.declared.mark.Mark.{Mark as MarkValue}
 use Rattle.hg_peer.specs.Marks.{IsAgainstMark, ChangesPins}
-use Rattle.hg_peer.specs.Peers.{Decides, IsAgainstOperation, SpellsPart, IsAgainstBytes}
+use Rattle.hg_peer.specs.Peers.{Decides, IsAgainstOperation, SpellsPart, IsAgainstBytes, ReadMayWantMemory}
 use Rattle.hg_live.specs.declared.answer.Accepted.{Accepted}
 use Rattle.hg_live.specs.declared.answer.Accepted.TheVariants.{Shown, Later}
 use Rattle.hg_live.specs.declared.answer.CallRefusal.{CallRefusal}
@@ -20,6 +21,7 @@ use Rattle.hg_live.specs.declared.answer.CallRefusal.TheVariants.{JournalFull, R
 use Rattle.hg_live.specs.declared.entry.Entry.{Entry}
 use Rattle.hg_live.specs.declared.entry.Entry.TheVariants.{Part, Mark}
 use Rattle.hg_live.specs.After.{IsNext, IsAfter}
+use Rattle.hg_live.specs.Limits.{call_limit}
 use Rattle.hg_live.specs.NodeViews.{PassView, DeskView}
 
 abbrev pub MatchAccepted : Accepted → Type 0 → Type 0 → Type 0
@@ -42,33 +44,43 @@ IsAgainstEntry s (Mark m) NoMemory = ChangesPins s m
 abbrev pub HasWaiting : DeskView → Type 0
 HasWaiting d = ¬ (d.waiting ≡ [])
 
+-- memory may be wanting for the entry of a part: something grows before a fault of the part is met, or something waits
+-- already, and there was no room behind it
+abbrev pub PartMayWantMemory : DeskView → PartValue → Type 0
+PartMayWantMemory d k = IsGrowthBeforeFault d.working.replica k ⊎ HasWaiting d
+
 -- why the desk doesn't: its state doesn't; or there was no room behind what waits
 abbrev pub IsNotEntered : DeskView → Entry → CallRefusal → Type 0
 IsNotEntered d entry refusal = IsAgainstEntry d.working entry refusal ⊎ ((refusal ≡ NoMemory) × HasWaiting d)
 
 -- ---- why a call at this desk is refused: want of memory never stands for an operation's refusal that is tried before
--- the first growth, nor for a fault of the bytes
+-- the first growth, nor for a fault of the bytes, nor for one of the part but where a growth came before
 
--- the journal is full; or the first refusal of the operation that applies; or memory was wanting
+-- the journal is full; or the first refusal of the operation that applies; or memory was wanting, to decide it or for
+-- the entry of its part
 abbrev pub IsAgainstLocal : DeskView → Op → CallRefusal → Type 0
-IsAgainstLocal d op JournalFull = 2 ^ 62 ≤ length d.journal
+IsAgainstLocal d op JournalFull = call_limit ≤ length d.journal
 IsAgainstLocal d op (Refused refusal) = IsAgainstOperation d.working op refusal
 IsAgainstLocal d op (Fault fault) = ⊥
 IsAgainstLocal d op NoMemory =
-    MayWantMemory d.working.replica d.working.pins op ⊎ ((k : PartValue) × Decides d.working op k)
+    MayWantMemory d.working.replica d.working.pins op
+    ⊎ ((k : PartValue) × Decides d.working op k × PartMayWantMemory d k)
 
--- the journal is full; or the first fault of the bytes, or of the part of their message; or memory was wanting
+-- the journal is full; or the first fault of the bytes, or of the part of their message; or memory was wanting, to read
+-- the message or for the entry of its part
 abbrev pub IsAgainstTake : DeskView → List ℕ → CallRefusal → Type 0
-IsAgainstTake d bytes JournalFull = 2 ^ 62 ≤ length d.journal
+IsAgainstTake d bytes JournalFull = call_limit ≤ length d.journal
 IsAgainstTake d bytes (Refused refusal) = IsAgainstBytes bytes refusal
 IsAgainstTake d bytes (Fault fault) =
     (k : PartValue) × SpellsPart bytes k × IsContentFault (content_of d.working.replica) k fault
-IsAgainstTake d bytes NoMemory = (m : MessageValue) × (message_at bytes ≡ Ok m)
+IsAgainstTake d bytes NoMemory =
+    (m : MessageValue) × (message_at bytes ≡ Ok m)
+    × (ReadMayWantMemory bytes ⊎ PartMayWantMemory d (message_part m))
 
 -- the journal is full; or what is to be pinned isn't held, or what is to be unpinned isn't pinned; or memory was
 -- wanting, where the mark has something to change, or for room behind what waits
 abbrev pub IsAgainstMarking : DeskView → MarkValue → CallRefusal → Type 0
-IsAgainstMarking d m JournalFull = 2 ^ 62 ≤ length d.journal
+IsAgainstMarking d m JournalFull = call_limit ≤ length d.journal
 IsAgainstMarking d m (Refused refusal) = IsAgainstMark d.working m refusal
 IsAgainstMarking d m (Fault fault) = ⊥
 IsAgainstMarking d m NoMemory = ChangesPins d.working m ⊎ HasWaiting d

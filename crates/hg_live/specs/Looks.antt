@@ -5,16 +5,15 @@ use Rattle.std.specs.declared.alloc.Global.{Global}
 use mathlib.Core.List.{IsPrefix}
 use Rattle.hg_changeset.specs.declared.node.Node.{Node}
 use Rattle.hg_replica.specs.State.{IsValid}
-use Rattle.hg_replica.specs.Content.{content_of}
 use Rattle.hg_message.specs.declared.scope.Scope.{Scope}
 use Rattle.hg_message.specs.declared.refusal.OfferRefusal.TheVariants as message
 use Rattle.hg_message.specs.Value.{MessageValue, is_too_large}
 use Rattle.hg_message.specs.Spelling.{message_spelling}
-use Rattle.hg_message.specs.Offer.{AreHeld, OfferAnswer}
+use Rattle.hg_message.specs.Offer.{OfferAnswer}
 use Rattle.hg_view.specs.Kept.{KeptValue}
 use Rattle.hg_peer.specs.declared.refusal.PeerRefusal.{PeerRefusal}
 use Rattle.hg_peer.specs.declared.refusal.PeerRefusal.TheVariants as peer
-use Rattle.hg_peer.specs.Peers.{CanBeWritten, IsAgainstWriting}
+use Rattle.hg_peer.specs.Peers.{CanBeWritten, IsAgainstWriting, OfferMayWantMemory}
 use Rattle.hg_live.specs.declared.answer.LookRefusal.{LookRefusal}
 use Rattle.hg_live.specs.declared.answer.LookRefusal.TheVariants.{NotEntered, NoMemory}
 use Rattle.hg_live.specs.declared.answer.NotOffered.{NotOffered}
@@ -59,7 +58,8 @@ IsAgainstOffering s common scope (peer.Message fault) = ⊥
 IsAgainstOffering s common scope (peer.View refusal) = ⊥
 IsAgainstOffering s common scope peer.NoMemory = ⊥
 
--- the answer to an offer. Want of memory is told only where each common node is held
+-- the answer to an offer. Want of memory is told only where each common node is held, and never of what was found and
+-- is too large
 abbrev pub OfferLookAnswer : KeptValue → List Node → Scope → PassView → Result (Vec ℕ Global) NotOffered → PassView →
     Type 0
 OfferLookAnswer o common scope old (Ok bytes) new = Looked o (λ s. OffersAbove s common scope bytes.items) old new
@@ -67,14 +67,14 @@ OfferLookAnswer o common scope old (Err offer.NotEntered) new = new ≡ old
 OfferLookAnswer o common scope old (Err (offer.Refused refusal)) new =
     Looked o (λ s. IsAgainstOffering s common scope refusal) old new
 OfferLookAnswer o common scope old (Err offer.NoMemory) new =
-    Looked o (λ s. AreHeld (content_of s.replica) common) old new
+    Looked o (λ s. OfferMayWantMemory s common scope) old new
 
 -- the answer of the state itself
 abbrev pub StateOffers : KeptValue → List Node → Scope → Result (Vec ℕ Global) NotOffered → Type 0
 StateOffers s common scope (Ok bytes) = OffersAbove s common scope bytes.items
 StateOffers s common scope (Err offer.NotEntered) = ⊥
 StateOffers s common scope (Err (offer.Refused refusal)) = IsAgainstOffering s common scope refusal
-StateOffers s common scope (Err offer.NoMemory) = AreHeld (content_of s.replica) common
+StateOffers s common scope (Err offer.NoMemory) = OfferMayWantMemory s common scope
 
 -- what is written of a message, which can be too large; memory can be wanting only where it isn't
 abbrev pub Writes : MessageValue → Result (Vec ℕ Global) NotOffered → Type 0

@@ -25,7 +25,7 @@ pub enum Accepted {
 /// Why a call that would change a node is refused. It changes nothing.
 #[derive(Clone, Copy, PartialEq, Eq, Debug)]
 pub enum CallRefusal {
-    /// 2^62 calls of the node were accepted, which is as many as may be. It is tried first.
+    /// [`CALL_LIMIT`](crate::CALL_LIMIT) calls of the node were accepted. It is tried first.
     JournalFull,
 
     /// The operation or the mark is refused, or the bytes are no message.
@@ -178,7 +178,7 @@ impl From<OfferRefusal> for NotOffered {
     }
 }
 
-/// There is no further pass: 16 are out, or 2^62 were made.
+/// There is no further pass: 16 are out, or [`PASS_LIMIT`](crate::PASS_LIMIT) were made.
 #[derive(Clone, Copy, PartialEq, Eq, Debug)]
 pub struct NoPass;
 

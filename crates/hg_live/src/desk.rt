@@ -1,6 +1,6 @@
 //! What lies under a node's lock.
-ghost use Rattle.std.specs.Prelude.{◌≡◌, ◌+◌, ◌<◌, ◌≤◌, ◌^◌, ◌++◌, ◌∷◌, ◌↔◌, [], List, fold, length, All};
-ghost use Rattle.std.specs.Prelude.{IfOk, IfErr, IsErrOf, OnOk, OnErr, IsTrue, IfSome, MatchOption};
+ghost use Rattle.std.specs.Prelude.{◌≡◌, ◌+◌, ◌<◌, ◌≤◌, ◌++◌, ◌∷◌, ◌↔◌, [], List, fold, length, All};
+ghost use Rattle.std.specs.Prelude.{◌^◌, IfOk, IfErr, IsErrOf, OnOk, OnErr, IsTrue, IfSome, MatchOption};
 ghost use Rattle.std.specs.List.{sum_by};
 ghost use mathlib.Core.List.{IsPrefix};
 ghost use Rattle.std.specs.VecDeque.{deque_capacity};
@@ -10,6 +10,7 @@ ghost use Rattle.hg_live.specs.declared.answer.CallRefusal.TheVariants.{JournalF
 ghost use Rattle.hg_live.specs.declared.answer.CloseRefusal.TheVariants.{PassesOut};
 ghost use Rattle.hg_live.specs.declared.entry.Entry.{Entry as EntryValue};
 ghost use Rattle.hg_live.specs.After.{IsAfter};
+ghost use Rattle.hg_live.specs.Limits.{call_limit, pass_limit};
 ghost use Rattle.hg_live.specs.NodeViews.{new_pass};
 ghost use Rattle.hg_live.specs.Calls.{IsNotEntered, IsAgainstLocal, IsAgainstTake, IsAgainstMarking, IsEnteredAt};
 ghost use Rattle.hg_live.specs.Calls.{AreAllOf, IsNoted, IsToldTo, EntersLocal, EntersBytes, EntersMark};
@@ -17,6 +18,7 @@ ghost use Rattle.hg_live.specs.Calls.{AreAllOf, IsNoted, IsToldTo, EntersLocal, 
 use crate::answer::{Accepted, CallRefusal, CloseRefusal, NoPass};
 use crate::entry::{Entry, accept};
 use crate::gate::Gate;
+use crate::limits::{CALL_LIMIT, PASS_LIMIT};
 use crate::name::NodeName;
 use crate::pass::Pass;
 use crate::store::{Publisher, Sight, Step, Writer};
@@ -31,9 +33,6 @@ use std::collections::VecDeque;
 use std::marker::Model;
 use std::sync::Wait;
 use std::sync::ledger::{Book, Share};
-
-/// As many calls of a node are accepted, and as many passes made, as this.
-pub(crate) const MOST: u64 = 1 << 62;
 
 /// What lies under a node's lock: the working replica with its pins, the journal of all that was accepted, and the
 /// writer of what is published. Contracts see the journal, what of it is published, and the working state.
@@ -111,7 +110,7 @@ impl<K: NodeName, R: Wait + Drop> Desk<K, Writer<K, R>> {
         requires writer { ((published writer).entries ≡ []) × (pending writer ≡ []) }
         requires waiting { (waiting.items ≡ []) × (1 ≤ deque_capacity waiting) }
         requires book { book.total ≡ 0 }
-        requires rest { (rest.amount ≡ 0) × (rest.parts ≡ 2 ^ 62 + 1) }
+        requires rest { (rest.amount ≡ 0) × (rest.parts ≡ pass_limit + 1) }
         ensures { result ≡ record { journal = []; published = []; waiting = []; working = K.opening } }
     {
         let start = journal.front();
@@ -124,7 +123,7 @@ impl<K: NodeName, R: Wait + Drop> Desk<K, Writer<K, R>> {
             writer,
             book,
             rest,
-            left: MOST,
+            left: PASS_LIMIT,
         }
     }
 
@@ -155,13 +154,13 @@ impl<K: NodeName, R: Wait + Drop> Desk<K, Writer<K, R>> {
     ) -> Result<Accepted, CallRefusal>
         ensures entered { IfOk result
             (λ answer. IsEnteredAt (EntersLocal op.now) answer self.old self.new pass.old pass.new) }
-        ensures full { IsErrOf result JournalFull ↔ (2 ^ 62 ≤ length self.old.journal) }
+        ensures full { IsErrOf result JournalFull ↔ (call_limit ≤ length self.old.journal) }
         ensures refused { IfErr result (IsAgainstLocal self.old op.now) }
         ensures err { OnErr result ((self.new ≡ self.old) × (pass.new ≡ pass.old)) }
         ensures after { IsAfter K.opening self.old.journal self.old.working }
         ensures rest { self.old.journal ≡ self.old.published ++ self.old.waiting }
     {
-        if self.journal.len() >= MOST {
+        if self.journal.len() >= CALL_LIMIT {
             return Err(CallRefusal::JournalFull);
         }
         match self.working.decide(self.alloc, op) {
@@ -181,13 +180,13 @@ impl<K: NodeName, R: Wait + Drop> Desk<K, Writer<K, R>> {
     ) -> Result<Accepted, CallRefusal>
         ensures entered { IfOk result
             (λ answer. IsEnteredAt (EntersBytes bytes.now) answer self.old self.new pass.old pass.new) }
-        ensures full { IsErrOf result JournalFull ↔ (2 ^ 62 ≤ length self.old.journal) }
+        ensures full { IsErrOf result JournalFull ↔ (call_limit ≤ length self.old.journal) }
         ensures refused { IfErr result (IsAgainstTake self.old bytes.now) }
         ensures err { OnErr result ((self.new ≡ self.old) × (pass.new ≡ pass.old)) }
         ensures after { IsAfter K.opening self.old.journal self.old.working }
         ensures rest { self.old.journal ≡ self.old.published ++ self.old.waiting }
     {
-        if self.journal.len() >= MOST {
+        if self.journal.len() >= CALL_LIMIT {
             return Err(CallRefusal::JournalFull);
         }
         match self.working.read_at(self.alloc, bytes) {
@@ -210,13 +209,13 @@ impl<K: NodeName, R: Wait + Drop> Desk<K, Writer<K, R>> {
     ) -> Result<Accepted, CallRefusal>
         ensures entered { IfOk result
             (λ answer. IsEnteredAt (EntersMark (mark.Pin node)) answer self.old self.new pass.old pass.new) }
-        ensures full { IsErrOf result JournalFull ↔ (2 ^ 62 ≤ length self.old.journal) }
+        ensures full { IsErrOf result JournalFull ↔ (call_limit ≤ length self.old.journal) }
         ensures refused { IfErr result (IsAgainstMarking self.old (mark.Pin node)) }
         ensures err { OnErr result ((self.new ≡ self.old) × (pass.new ≡ pass.old)) }
         ensures after { IsAfter K.opening self.old.journal self.old.working }
         ensures rest { self.old.journal ≡ self.old.published ++ self.old.waiting }
     {
-        if self.journal.len() >= MOST {
+        if self.journal.len() >= CALL_LIMIT {
             return Err(CallRefusal::JournalFull);
         }
         self.enter(pass, gate, Entry::Mark(Mark::Pin(node)))
@@ -235,13 +234,13 @@ impl<K: NodeName, R: Wait + Drop> Desk<K, Writer<K, R>> {
     ) -> Result<Accepted, CallRefusal>
         ensures entered { IfOk result
             (λ answer. IsEnteredAt (EntersMark (mark.Unpin node)) answer self.old self.new pass.old pass.new) }
-        ensures full { IsErrOf result JournalFull ↔ (2 ^ 62 ≤ length self.old.journal) }
+        ensures full { IsErrOf result JournalFull ↔ (call_limit ≤ length self.old.journal) }
         ensures refused { IfErr result (IsAgainstMarking self.old (mark.Unpin node)) }
         ensures err { OnErr result ((self.new ≡ self.old) × (pass.new ≡ pass.old)) }
         ensures after { IsAfter K.opening self.old.journal self.old.working }
         ensures rest { self.old.journal ≡ self.old.published ++ self.old.waiting }
     {
-        if self.journal.len() >= MOST {
+        if self.journal.len() >= CALL_LIMIT {
             return Err(CallRefusal::JournalFull);
         }
         self.enter(pass, gate, Entry::Mark(Mark::Unpin(node)))
@@ -256,7 +255,7 @@ impl<K: NodeName, R: Wait + Drop> Desk<K, Writer<K, R>> {
         gate: &G,
         entry: Entry,
     ) -> Result<Accepted, CallRefusal>
-        requires room { length self.old.journal < 2 ^ 62 }
+        requires room { length self.old.journal < call_limit }
         ensures noted { IfOk result (λ answer. IsNoted entry answer self.old self.new) }
         ensures told { IfOk result
             (λ answer. IsToldTo answer self.old.journal self.new.journal pass.old pass.new) }
@@ -320,7 +319,7 @@ impl<K: NodeName, R: Wait + Drop> Desk<K, Writer<K, R>> {
 
 // Adds an entry to the journal, tells the pass what the journal has then, and gives the step there.
 fn noted<K: NodeName>(journal: &mut Journal<K, Entry>, pass: &mut Pass<K>, entry: Entry) -> Step<K>
-    requires room { length journal.old < 2 ^ 62 }
+    requires room { length journal.old < call_limit }
     ensures step { (result.entry ≡ entry) × (result.after ≡ journal.new) }
     ensures journal { journal.new ≡ journal.old ++ entry ∷ [] }
     ensures pass { pass.new ≡ record pass.old { told = journal.new } }

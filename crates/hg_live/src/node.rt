@@ -1,5 +1,5 @@
 //! A node that threads share.
-ghost use Rattle.std.specs.Prelude.{◌≡◌, ◌+◌, ◌^◌, [], ℕ, List, length, IfOk, IfErr, IsErrOf, OnErr, All};
+ghost use Rattle.std.specs.Prelude.{◌≡◌, [], ℕ, List, length, IfOk, IfErr, IsErrOf, OnErr, All};
 ghost use Rattle.std.specs.List.{sum_by};
 ghost use mathlib.Core.List.{IsPrefix};
 ghost use Rattle.hg_replica.specs.Content.{content_of};
@@ -17,9 +17,10 @@ ghost use Rattle.hg_live.specs.Calls.{IsEntered, IsRefusedAt, IsAgainstLocal, Is
 ghost use Rattle.hg_live.specs.Calls.{AreAllOf, EntersLocal, EntersBytes, EntersMark};
 
 use crate::answer::{Accepted, CallRefusal, CloseRefusal, LookRefusal, NoPass, NotOffered};
-use crate::desk::{Desk, MOST};
+use crate::desk::Desk;
 use crate::entry::Entry;
 use crate::gate::Gate;
+use crate::limits::PASS_LIMIT;
 use crate::name::NodeName;
 use crate::pass::Pass;
 use crate::store::{Publisher, Writer, both_published};
@@ -32,15 +33,37 @@ use hg_rewrite::Op;
 use hg_view::{Kept, Status};
 use std::alloc::Global;
 use std::collections::VecDeque;
+use std::marker::Model;
 use std::sync::{Mutex, Wait, ledger};
 
-/// A node that has no name yet, which a replica was handed to.
+/// A node that has no name yet, which a replica was handed to. Contracts see what it opens with, the book of its
+/// journal, and the name and the parts of its tokens.
 #[derive(Drop)]
 pub struct Blank {
-    pub(crate) opening: Peer,
-    pub(crate) opened: Opened<Entry>,
-    pub(crate) tokens: ledger::Blank,
-    pub(crate) ghost parts: { tokens.parts ≡ 2 ^ 62 + 1 },
+    opening: Peer,
+    opened: Opened<Entry>,
+    tokens: ledger::Blank,
+}
+
+impl Model for Blank {
+    ghost use Rattle.std.specs.Prelude.{◌≡◌, ◌+◌};
+    ghost use Rattle.std.specs.Coded.{codes};
+    ghost use Rattle.logbook.specs.Pages.{book_coded};
+    ghost use Rattle.hg_marker.specs.Fields.{fields_code};
+    ghost use Rattle.hg_live.specs.Limits.{pass_limit};
+    ghost use Rattle.hg_live.specs.NodeViews.{BlankView};
+
+    ghost Value = { BlankView };
+
+    ghost coded = { Prim.hlevel (codes, fields_code, book_coded) };
+
+    ghost view = { λ b. record {
+      opening = b.opening;
+      opened = b.opened;
+      tokens = record { name = b.tokens.name; parts = b.tokens.parts };
+    } };
+
+    ghost invariant = { λ b. b.tokens.parts ≡ pass_limit + 1 };
 }
 
 impl Blank {
@@ -56,7 +79,7 @@ impl Blank {
         Ok(Blank {
             opening: Peer::new(kept),
             opened,
-            tokens: ledger::Blank::new(MOST + 1),
+            tokens: ledger::Blank::new(PASS_LIMIT + 1),
         })
     }
 }
@@ -118,8 +141,8 @@ impl<K: NodeName, G: Gate + Drop, R: Wait + Drop> Node<K, G, Writer<K, R>> {
 
     /// A new pass, which has seen nothing and was told nothing. It waits for the lock.
     ///
-    /// Refuses where 16 are out, or 2^62 were made. To drop a pass makes room for another, but the node can't be closed
-    /// any more where calls of it were accepted.
+    /// Refuses where 16 are out, or [`PASS_LIMIT`] were made. To drop a pass makes room for another, but the node can't
+    /// be closed any more where calls of it were accepted.
     pub fn pass<W: Wait>(&self, rt: &W) -> Result<Pass<K>, NoPass>
         ensures { IfOk result (λ p. p ≡ new_pass) }
     {

@@ -1,10 +1,11 @@
 //! The right to use a node.
-ghost use Rattle.std.specs.Prelude.{◌≡◌, ◌+◌, ◌<◌, ◌^◌, ℕ, [], IfSome, IfOk, IfErr, IsErrOf, length};
+ghost use Rattle.std.specs.Prelude.{◌≡◌, ◌+◌, ◌<◌, ℕ, [], IfSome, IfOk, IfErr, IsErrOf, length};
 ghost use mathlib.Core.List.{IsPrefix};
 ghost use Rattle.hg_replica.specs.Content.{content_of};
 ghost use Rattle.hg_discovery.specs.Rounds.{AreKnown};
 ghost use Rattle.hg_live.specs.declared.answer.LookRefusal.TheVariants as look;
 ghost use Rattle.hg_view.specs.Status.{IsStatus};
+ghost use Rattle.hg_live.specs.Limits.{call_limit};
 ghost use Rattle.hg_live.specs.NodeViews.{new_pass};
 ghost use Rattle.hg_live.specs.Looks.{LookAnswer, OfferLookAnswer, StateOffers, Writes};
 
@@ -107,7 +108,7 @@ impl<K: NodeName> Pass<K> {
 
     // Counts an accepted call.
     pub(crate) fn count(&mut self, book: &mut Book<K>)
-        requires { book.old.total < 2 ^ 62 }
+        requires { book.old.total < call_limit }
         ensures same { self.new ≡ record self.old { calls = self.old.calls + 1 } }
         ensures total { book.new.total ≡ book.old.total + 1 }
     {
@@ -240,8 +241,7 @@ fn offered_by(
     ensures { StateOffers peer.now common.now scope result }
 {
     let kept = peer.kept();
-    // It says that the replica is in a valid state.
-    let _replica = kept.replica();
+    kept.replica().is_valid();
     match Outgoing::above_kept(alloc, kept, common, scope) {
         Ok(found) => written(&found),
         Err(refusal) => Err(refusal.into()),

@@ -1,4 +1,5 @@
 pub mod PeerLemmas
+mod ReadLemmas
 pub mod TakeLemmas
 pub mod AgreeLemmas
 pub mod SecretLemmas

@@ -24,10 +24,6 @@ use Rattle.hg_rewrite.specs.declared.refusal.Refusal.{Refusal}
 use Rattle.hg_rewrite.specs.declared.refusal.Refusal.TheVariants as operation
 use Rattle.hg_rewrite.specs.Answer.{DecideAnswer}
 use Rattle.hg_rewrite.specs.Memory.{MayWantMemory}
-use Rattle.hg_marker.specs.declared.error.ReadError.{ReadError}
-use Rattle.hg_marker.specs.declared.error.ReadError.TheVariants as reading
-use Rattle.hg_marker.specs.Reading.{Fails}
-use Rattle.hg_message.specs.declared.error.MessageFault.{MessageFault}
 use Rattle.hg_marker.specs.Grammar.{IsMarker}
 use Rattle.hg_message.specs.declared.refusal.OfferRefusal.{OfferRefusal}
 use Rattle.hg_message.specs.declared.refusal.OfferRefusal.TheVariants as offer
@@ -42,12 +38,12 @@ use Rattle.hg_message.proofs.ExistLemmas.{offer-exists}
 use Rattle.hg_message.proofs.OfferLemmas.{not-too-large}
 use Rattle.hg_message.proofs.WritableLemmas.{offer-read}
 use Rattle.hg_peer.specs.declared.refusal.PeerRefusal.{PeerRefusal}
-use Rattle.hg_peer.specs.declared.refusal.PeerRefusal.TheVariants.{Offer, Message, View, NoMemory}
+use Rattle.hg_peer.specs.declared.refusal.PeerRefusal.TheVariants.{Offer, View, NoMemory}
 use Rattle.hg_peer.specs.declared.ask.Ask.{Ask}
 use Rattle.hg_peer.specs.declared.mark.Mark.TheVariants.{Pin, Unpin}
 use Rattle.hg_peer.specs.Marks.{Tells, Marks, IsAgainstMark, ChangesPins}
-use Rattle.hg_peer.specs.Refusals.{rewrite_refusal, offer_refusal, message_refusal, pin_refusal}
-use Rattle.hg_peer.specs.Peers.{CanBeWritten, Offers, IsAgainstOffer, IsAgainstWriting, IsMemory}
+use Rattle.hg_peer.specs.Refusals.{rewrite_refusal, offer_refusal, pin_refusal}
+use Rattle.hg_peer.specs.Peers.{CanBeWritten, Offers, IsAgainstOffer, IsAgainstWriting, IsMemory, OfferMayWantMemory}
 
 -- ---- a replica that holds nothing says nothing
 
@@ -94,16 +90,6 @@ pub decide-memory : (s : ReplicaState) (pins : List Node) (op : Op) (r : Refusal
     (IsErrOf {T = PartValue} (Err r) operation.NoMemory → MayWantMemory s pins op) →
     IsErrOf {T = PartValue} (Err told) NoMemory → MayWantMemory s pins op
 decide-memory s pins op r told is may e = may (ap Err (rewrite-memory r (sym is ∙ same_error told NoMemory e)))
-
--- ---- bytes
-
-pub read-memory : (r : Result MessageValue MessageFault) (error : ReadError MessageFault) (told : PeerRefusal) →
-    told ≡ message_refusal error → Fails error r → IsErrOf {T = PartValue} (Err told) NoMemory →
-    (m : MessageValue) × (r ≡ Ok m)
-read-memory (Ok m) error told is fails e = (m, refl)
-read-memory (Err fault) reading.NoMemory told is fails e = absurd fails
-read-memory (Err fault) (reading.Fault other) told is fails e =
-    let same : Message other ≡ NoMemory = sym is ∙ same_error told NoMemory e in absurd cc
 
 -- ---- offers
 
@@ -183,18 +169,27 @@ refused-offer s ask lent r told e is h =
     subst (λ (x : PeerRefusal). IsAgainstOffer s ask x ⊎ IsMemory x) (sym is)
     (one-refused s ask r (subst (λ (ns : List Node). Finds s ns ask.scope (Err r)) e h))
 
--- memory is wanting only where each common node is held
+-- memory is wanting to find an offer only where each common node is held, and where there is something to find
 one-wants : (s : KeptValue) (common : List Node) (scope : Scope) (r : OfferRefusal) → Finds s common scope (Err r) →
-    offer_refusal r ≡ NoMemory → AreHeld (content_of s.replica) common
+    offer_refusal r ≡ NoMemory → OfferMayWantMemory s common scope
 one-wants s common scope (offer.UnknownCommon node) h e = absurd cc
 one-wants s common scope offer.TooLarge h e = absurd h
-one-wants s common scope offer.NoMemory h e = h.0
+one-wants s common scope offer.NoMemory h e = (h.0, inl h.1)
 
 pub refused-wants : (s : KeptValue) (ask : Ask) (lent : List Node) (r : OfferRefusal)
     (told : PeerRefusal) → lent ≡ ask.common.items → told ≡ offer_refusal r → Finds s lent ask.scope (Err r) →
-    IsErrOf {T = Vec ℕ Global} (Err told) NoMemory → AreHeld (content_of s.replica) ask.common.items
+    IsErrOf {T = Vec ℕ Global} (Err told) NoMemory → OfferMayWantMemory s ask.common.items ask.scope
 refused-wants s ask lent r told e is h wants =
-    subst (AreHeld (content_of s.replica)) e (one-wants s lent ask.scope r h (sym is ∙ same_error told NoMemory wants))
+    subst (λ (ns : List Node). OfferMayWantMemory s ns ask.scope) e
+    (one-wants s lent ask.scope r h (sym is ∙ same_error told NoMemory wants))
+
+-- and to write what was found only where that isn't too large
+pub found-wants : (s : KeptValue) (ask : Ask) (lent : List Node) (m : MessageValue)
+    (r : Result (Vec ℕ Global) PeerRefusal) → lent ≡ ask.common.items → Finds s lent ask.scope (Ok m) →
+    (IsErrOf r NoMemory → is_too_large m ≡ false) → IsErrOf r NoMemory →
+    OfferMayWantMemory s ask.common.items ask.scope
+found-wants s ask lent m r e h small wants =
+    subst (λ (ns : List Node). OfferMayWantMemory s ns ask.scope) e (h.0, inr (m, h.1, small wants))
 
 -- what is written says the message
 pub written-well : (m : MessageValue) (bytes : List ℕ) → WriteAnswer {A = List ℕ} (λ b. b) m (Ok bytes) →

@@ -1,5 +1,5 @@
 -- What taking bytes in says, by what reading them and absorbing their part say.
-use Rattle.std.proofs.Common.{◌≡◌, ◌⊎◌, ℕ, List, Result, Ok, Err, inl, inr, refl, sym, subst, ◌∙◌}
+use Rattle.std.proofs.Common.{◌≡◌, ◌⊎◌, ◌<◌, ℕ, List, length, Result, Ok, Err, inl, inr, refl, sym, subst, ◌∙◌}
 use Rattle.std.specs.Prelude.{IfOk, IfErr, OnOk, OnErr, IsErrOf, MatchResult}
 use Rattle.hg_history.specs.declared.fault.Fault.{Fault}
 use Rattle.hg_history.specs.declared.fault.Fault.TheVariants as fault
@@ -41,10 +41,11 @@ module _ (s t : KeptValue) (bytes : List ℕ) where
 
   -- bytes that were refused
   pub none_taken : (r : Result MessageValue MessageFault) (error : ReadError MessageFault) (told : PeerRefusal) →
-      message_at bytes ≡ r → told ≡ message_refusal error → Fails error r → t ≡ s → TakesBytes s bytes (Err told) t
-  none_taken (Ok m) reading.NoMemory told is says fails same = (inr (says, (m, is)), same)
-  none_taken (Err other) reading.NoMemory told is says fails same = absurd fails
-  none_taken r (reading.Fault found) told is says fails same =
+      message_at bytes ≡ r → told ≡ message_refusal error → Fails error r →
+      (error ≡ reading.NoMemory → 40 < length bytes) → t ≡ s → TakesBytes s bytes (Err told) t
+  none_taken (Ok m) reading.NoMemory told is says fails long same = (inr (says, (long refl, (m, is))), same)
+  none_taken (Err other) reading.NoMemory told is says fails long same = absurd fails
+  none_taken r (reading.Fault found) told is says fails long same =
       (inl (subst (IsAgainstBytes bytes) (sym says) (is ∙ fails)), same)
 
   pub take_taken : (r : Result (Result ChangeValue Fault) PeerRefusal) → IfOk r (λ answer. IsValid s.replica) →

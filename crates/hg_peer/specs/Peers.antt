@@ -1,5 +1,6 @@
 -- What a peer decides, offers and reads.
-use Rattle.std.specs.Prelude.{◌≡◌, ◌⊎◌, ℕ, List, true, Result, Ok, Err, IsErrOf}
+use Rattle.std.specs.Prelude.{◌≡◌, ◌⊎◌, ◌<◌, ℕ, List, length, true, false, Result, Ok, Err, IsErrOf}
+use Rattle.hg_changeset.specs.declared.node.Node.{Node}
 use Rattle.hg_history.specs.declared.fault.Fault.{Fault}
 use Rattle.hg_history.specs.declared.fault.Fault.TheVariants as fault
 use Rattle.hg_replica.specs.State.{IsValid}
@@ -17,7 +18,8 @@ use Rattle.hg_message.specs.Value.{MessageValue, IsMessage, is_too_large}
 use Rattle.hg_message.specs.Message.{message_at}
 use Rattle.hg_message.specs.Spelling.{message_spelling}
 use Rattle.hg_message.specs.Part.{part_of as message_part}
-use Rattle.hg_message.specs.Offer.{AreHeld, IsFirstUnknown, IsOfferOf}
+use Rattle.hg_message.specs.declared.scope.Scope.{Scope}
+use Rattle.hg_message.specs.Offer.{AreHeld, IsFirstUnknown, IsOfferOf, HasNothing}
 use Rattle.hg_peer.specs.declared.ask.Ask.{Ask}
 use Rattle.hg_peer.specs.declared.refusal.PeerRefusal.{PeerRefusal}
 use Rattle.hg_peer.specs.declared.refusal.PeerRefusal.TheVariants.{Rewrite, Offer, Message, View, NoMemory}
@@ -69,6 +71,14 @@ IsAgainstOffer s ask (Message fault) = ⊥
 IsAgainstOffer s ask (View refusal) = ⊥
 IsAgainstOffer s ask NoMemory = ⊥
 
+-- memory may be wanting for the offer of the scope above the common nodes. Each of them is held; and it is wanting to
+-- find the offer, where there is something to find, or to write what was found and isn't too large
+abbrev pub OfferMayWantMemory : KeptValue → List Node → Scope → Type 0
+OfferMayWantMemory s common scope =
+    AreHeld (content_of s.replica) common
+    × ((¬ (HasNothing s.replica scope))
+    ⊎ ((m : MessageValue) × IsOfferOf s.replica s.pins common scope m × (is_too_large m ≡ false)))
+
 -- what was found is too large to be written
 abbrev pub IsAgainstWriting : MessageValue → PeerRefusal → Type 0
 IsAgainstWriting m refusal = (refusal ≡ Offer TooLarge) × (is_too_large m ≡ true)
@@ -87,12 +97,17 @@ IsAgainstBytes bytes (Message fault) = message_at bytes ≡ Err fault
 IsAgainstBytes bytes (View refusal) = ⊥
 IsAgainstBytes bytes NoMemory = ⊥
 
+-- memory may be wanting to read the bytes: they say a message, and one with a changeset, a bound or a marker, the least
+-- of which has 41 bytes. Without these none is taken
+abbrev pub ReadMayWantMemory : List ℕ → Type 0
+ReadMayWantMemory bytes = (40 < length bytes) × ((m : MessageValue) × (message_at bytes ≡ Ok m))
+
 -- what taking bytes in answers, and the peer after it: the replica's answer to the part of the message that they say,
 -- which is want of memory only where something grows before a fault is met; or the first fault of the bytes, or want
--- of memory where they say a message. The pins stay, and a refusal leaves all
+-- of memory where there may be. The pins stay, and a refusal leaves all
 abbrev pub TakesBytes : KeptValue → List ℕ → Result (Result ChangeValue Fault) PeerRefusal → KeptValue → Type 0
 TakesBytes s bytes (Ok answer) t =
     (m : MessageValue) × (message_at bytes ≡ Ok m) × AbsorbAnswer s.replica (message_part m) answer t.replica
     × (IsErrOf answer fault.NoMemory → IsGrowthBeforeFault s.replica (message_part m)) × (t.pins ≡ s.pins)
 TakesBytes s bytes (Err refusal) t =
-    (IsAgainstBytes bytes refusal ⊎ (IsMemory refusal × ((m : MessageValue) × (message_at bytes ≡ Ok m)))) × (t ≡ s)
+    (IsAgainstBytes bytes refusal ⊎ (IsMemory refusal × ReadMayWantMemory bytes)) × (t ≡ s)

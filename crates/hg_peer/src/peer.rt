@@ -1,6 +1,6 @@
 //! A replica that decides, offers and reads, with the pins of its node.
-ghost use Rattle.std.specs.Prelude.{◌≡◌, ◌↔◌, ◌⊎◌, [], Bool, false, Ok, IsTrue, IsOkAnd, IfOk, IfErr, OnOk, OnErr};
-ghost use Rattle.std.specs.Prelude.{IsErrOf, MatchResult};
+ghost use Rattle.std.specs.Prelude.{◌≡◌, ◌↔◌, ◌⊎◌, ◌<◌, [], Bool, false, IsTrue, IsOkAnd, IfOk, IfErr, OnOk, OnErr};
+ghost use Rattle.std.specs.Prelude.{IsErrOf, MatchResult, length};
 ghost use Rattle.hg_changeset.specs.declared.node.Node.{Node};
 ghost use Rattle.hg_join.specs.Order.{IsDue};
 ghost use Rattle.hg_phases.specs.State.{state_of};
@@ -17,16 +17,14 @@ ghost use Rattle.hg_replica.specs.Least.{PartValue, part_of as part_of_replica};
 ghost use Rattle.hg_replica.specs.State.{IsValid};
 ghost use Rattle.hg_replica.specs.Words.{replica_words};
 ghost use Rattle.hg_rewrite.specs.Memory.{MayWantMemory};
-ghost use Rattle.hg_message.specs.Value.{MessageValue, is_too_large};
-ghost use Rattle.hg_message.specs.Message.{message_at};
-ghost use Rattle.hg_message.specs.Offer.{AreHeld};
+ghost use Rattle.hg_message.specs.Value.{is_too_large};
 ghost use Rattle.hg_message.specs.Part.{part_of as message_part};
 ghost use Rattle.hg_message.specs.Spelling.{message_spelling};
 ghost use Rattle.hg_peer.specs.declared.mark.Mark.TheVariants.{Pin, Unpin};
 ghost use Rattle.hg_peer.specs.declared.refusal.PeerRefusal.TheVariants.{NoMemory as OutOfMemory};
 ghost use Rattle.hg_peer.specs.Peers.{Decides as DecidesPart, IsAgainstOperation, Offers as OffersBytes};
 ghost use Rattle.hg_peer.specs.Peers.{IsAgainstOffer, IsAgainstWriting, SpellsPart, IsAgainstBytes as AgainstBytes};
-ghost use Rattle.hg_peer.specs.Peers.{IsMemory, CanBeWritten, TakesBytes};
+ghost use Rattle.hg_peer.specs.Peers.{IsMemory, CanBeWritten, TakesBytes, OfferMayWantMemory, ReadMayWantMemory};
 ghost use Rattle.hg_peer.specs.Marks.{own, Tells as TellsPeer, Marks as MarksPins, IsAgainstMark as AgainstMark};
 ghost use Rattle.hg_peer.specs.Marks.{ChangesPins};
 ghost use Rattle.hg_peer.specs.New.{IsNew};
@@ -338,10 +336,11 @@ impl Actor for Peer {
         ensures err { IfErr result (λ refusal. IsAgainstOffer self.now ask.now refusal ⊎ IsMemory refusal) }
         ensures due { IsDue (OffersBytes self.now ask.now) (IsAgainstOffer self.now ask.now) }
 
-        // Want of memory is told only where each common node is held.
-        ensures memory { IsErrOf result OutOfMemory → AreHeld (content_of self.now.replica) ask.now.common.items }
+        // Want of memory is told only where each common node is held, and never of what was found and is too large.
+        ensures memory { IsErrOf result OutOfMemory
+            → OfferMayWantMemory self.now ask.now.common.items ask.now.scope }
     {
-        // They say that the replica is in a valid state, and that each of its markers can be written.
+        // They say to proofs that the replica is in a valid state, and that each of its markers can be written.
         let replica = self.kept.replica();
         let _markers = replica.store().markers();
         match Outgoing::above_kept(alloc, &self.kept, &ask.common, ask.scope) {
@@ -370,8 +369,8 @@ impl Actor for Peer {
         ensures err { IfErr result (λ refusal. AgainstBytes bytes.now refusal ⊎ IsMemory refusal) }
         ensures due { IsDue (SpellsPart bytes.now) (AgainstBytes bytes.now) }
 
-        // Want of memory is told only of bytes without fault.
-        ensures memory { IsErrOf result OutOfMemory → ((m : MessageValue) × (message_at bytes.now ≡ Ok m)) }
+        // Want of memory is told only of bytes without fault, and of more than 40.
+        ensures memory { IsErrOf result OutOfMemory → ReadMayWantMemory bytes.now }
     {
         read_part(alloc, None, bytes)
     }
@@ -381,8 +380,8 @@ impl Actor for Peer {
         ensures err { IfErr result (λ refusal. AgainstBytes bytes.now refusal ⊎ IsMemory refusal) }
         ensures due { IsDue (SpellsPart bytes.now) (AgainstBytes bytes.now) }
 
-        // Want of memory is told only of bytes without fault.
-        ensures memory { IsErrOf result OutOfMemory → ((m : MessageValue) × (message_at bytes.now ≡ Ok m)) }
+        // Want of memory is told only of bytes without fault, and of more than 40.
+        ensures memory { IsErrOf result OutOfMemory → ReadMayWantMemory bytes.now }
     {
         read_part(alloc, Some(self.kept.replica()), bytes)
     }
@@ -411,7 +410,7 @@ fn read_part(alloc: Global, held: Option<&Replica>, bytes: &[u8]) -> Result<Part
     ensures ok { IfOk result (SpellsPart bytes.now) }
     ensures err { IfErr result (λ refusal. AgainstBytes bytes.now refusal ⊎ IsMemory refusal) }
     ensures due { IsDue (SpellsPart bytes.now) (AgainstBytes bytes.now) }
-    ensures memory { IsErrOf result OutOfMemory → ((m : MessageValue) × (message_at bytes.now ≡ Ok m)) }
+    ensures memory { IsErrOf result OutOfMemory → ReadMayWantMemory bytes.now }
 {
     match Message::from_bytes_at(alloc, held, bytes) {
         Ok(message) => part_of(message),
@@ -478,6 +477,7 @@ fn written(found: &Outgoing<'_>) -> Result<Vec<u8>, PeerRefusal>
 fn part_of(message: Message) -> Result<Part, PeerRefusal>
     ensures ok { IfOk result (λ part. part ≡ message_part message) }
     ensures err { IfErr result (λ refusal. refusal ≡ OutOfMemory) }
+    ensures memory { OnErr result (0 < length message.changesets) }
 {
     match message.into_part() {
         Ok(part) => Ok(part),

@@ -10,7 +10,7 @@ returns-in-Ok c =
     let common = c.args.common.now in
     let scope = c.args.scope in
     subst (λ (s : KeptValue). StateOffers s common scope c.written.result) c.kept-kept.ensures
-    (found_told c.kept-kept.result.now common scope c.in-Ok.found c.written.result c.replica-replica.ensures.valid
+    (found_told c.kept-kept.result.now common scope c.in-Ok.found c.written.result c.replica.ensures.valid
     c.in-Ok.ensures c.written.ensures)
 
 pub returns-in-Err : goal.returns-in-Err

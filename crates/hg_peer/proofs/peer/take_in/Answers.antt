@@ -1,5 +1,7 @@
-use Rattle.std.proofs.Common.{Ok, refl, subst}
+use Rattle.std.proofs.Common.{Ok, Err, ap, refl, subst}
+use Rattle.hg_marker.specs.declared.error.ReadError.{ReadError}
 use Rattle.hg_replica.specs.State.{ReplicaState}
+use Rattle.hg_message.specs.declared.error.MessageFault.{MessageFault}
 use Rattle.hg_message.specs.Message.{message_at}
 use Rattle.hg_message.specs.Known.{PartAnswer}
 use Rattle.hg_peer.proofs.TakeLemmas.{part_taken, none_taken}
@@ -17,4 +19,5 @@ returns-in-Ok-clause-answer c =
 pub returns-in-Err-clause-answer : goal.returns-in-Err-clause-answer
 returns-in-Err-clause-answer c =
     none_taken c.args.kept.now c.args.kept.now c.args.bytes.now (message_at c.args.bytes.now) c.in-Err.error
-    c.into.result refl c.into.ensures c.in-Err.ensures.answer refl
+    c.into.result refl c.into.ensures c.in-Err.ensures.answer
+    (λ e. c.in-Err.ensures.memory (ap (λ (x : ReadError MessageFault). Err x) e)) refl

@@ -12,8 +12,8 @@ invariant_of-self-in-Some g c =
     record {
       after = after_grown g.K.NodeName.opening i.working c.accept.new.peer i.journal _ c.args.entry v.after
           c.in-Ok.ensures.ok grown;
-      rest = none_behind (λ step. step.entry) _ _ _ _ (c.in-Some.ensures.shown ∙ c.again-after.ensures ∙ c.noted-step.ensures.step.1)
-          c.in-Some.ensures.rest;
+      rest = none_behind (λ step. step.entry) _ _ _ _
+          (c.in-Some.ensures.shown ∙ c.again-after.ensures ∙ c.noted-step.ensures.step.1) c.in-Some.ensures.rest;
       counted = counted_grown i.book.total c.count.new.book.total i.journal _ c.args.entry c.count.ensures.total
           v.counted grown;
       unasked = v.unasked;

@@ -1,9 +1,7 @@
 use Rattle.std.proofs.Common.{All, ap, subst, ◌∙◌}
 use Rattle.hg_marker.specs.Grammar.{IsMarker}
 use Rattle.hg_replica.specs.State.{ReplicaState}
-use Rattle.hg_replica.specs.Content.{content_of}
-use Rattle.hg_message.specs.Offer.{AreHeld}
-use Rattle.hg_peer.proofs.PeerLemmas.{offered, large-refused, answered-due, refused-offer, refused-wants}
+use Rattle.hg_peer.proofs.PeerLemmas.{offered, large-refused, answered-due, refused-offer, refused-wants, found-wants}
 use Rattle.hg_peer.proofs.peer.PeerActor.offer.Goals as goal
 
 pub returns-in-Ok-clause-ok : goal.returns-in-Ok-clause-ok
@@ -25,8 +23,8 @@ returns-in-Ok-clause-due c =
 
 pub returns-in-Ok-clause-memory : goal.returns-in-Ok-clause-memory
 returns-in-Ok-clause-memory c =
-    rw (← c.self.view_is) (λ h. subst (AreHeld (content_of c.self.inside.kept.replica)) c.deref.ensures.value
-    c.in-Ok.ensures.0)
+    rw (← c.self.view_is) (found-wants c.self.inside.kept c.args.ask.now c.deref.result.now c.in-Ok.found
+    c.written.result c.deref.ensures.value c.in-Ok.ensures c.written.ensures.memory)
 
 pub returns-in-Err-clause-err : goal.returns-in-Err-clause-err
 returns-in-Err-clause-err c =
