@@ -9,7 +9,7 @@ use Rattle.hg_view.specs.Kept.{KeptValue}
 use Rattle.hg_log.specs.declared.colour.Colour.TheVariants.{Yellow}
 use Rattle.hg_log.specs.Colours.{end_of_colour, in_colour, start_of}
 use Rattle.hg_log.specs.Drawings.{ArePieces, ArePlacesGiven, Extends, Grows, HasId, IsDrawnAt, IsDrawnText, IsLine}
-use Rattle.hg_log.specs.Drawings.{IsPlaceGiven, IsPlaceShown, StandsAt, Text, short_id}
+use Rattle.hg_log.specs.Drawings.{IsPlaceGiven, IsPlaceToBeDrawn, StandsAt, Text, short_id}
 
 -- ---- texts that grow
 
@@ -104,13 +104,13 @@ none_drawn kept shows_hidden place held end =
     ([], none_given (IsDrawnAt kept) kept shows_hidden place end, Appends-nil held)
 
 pub shown_place : (kept : KeptValue) (shows_hidden : Bool) (place : ℕ) (a b : Option Text)
-    → IsPlaceShown kept shows_hidden place
+    → IsPlaceToBeDrawn kept shows_hidden place
     → ((n : Node) × (text : Text) × StandsAt kept place n × IsDrawnText n text × Appends a b text)
     → (here : Text) × IsPlaceGiven (IsDrawnAt kept) kept shows_hidden place here × Appends a b here
 shown_place kept shows_hidden place a b shown drawn = (drawn.1, inl (shown, (drawn.0, drawn.2, drawn.3)), drawn.4)
 
 pub hidden_place : (kept : KeptValue) (shows_hidden : Bool) (place : ℕ) (a : Option Text)
-    → ¬ (IsPlaceShown kept shows_hidden place)
+    → ¬ (IsPlaceToBeDrawn kept shows_hidden place)
     → (here : Text) × IsPlaceGiven (IsDrawnAt kept) kept shows_hidden place here × Appends a a here
 hidden_place kept shows_hidden place a hidden = ([], inr (hidden, refl), Appends-nil a)
 

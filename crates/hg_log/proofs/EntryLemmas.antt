@@ -20,7 +20,7 @@ use Rattle.hg_view.specs.Status.{IsStatus}
 use Rattle.hg_view.specs.declared.status.Status.{Status}
 use Rattle.hg_obsstore.specs.Markers.{ArePlaces}
 use Rattle.hg_view.specs.Kept.{KeptValue}
-use Rattle.hg_log.specs.Drawings.{IsPlaceGiven, IsPlaceShown, Text}
+use Rattle.hg_log.specs.Drawings.{IsPlaceGiven, IsPlaceToBeDrawn, Text}
 use Rattle.hg_log.specs.Entries.{Entry, IsEntryAt, object_text, told_text}
 use Rattle.hg_log.specs.Json.{IsAppended, behind}
 use Rattle.hg_log.specs.declared.named.NamedNode.{NamedNode}
@@ -152,12 +152,12 @@ next_told node shows_hidden place a b c x y z within first second =
     (λ (es others : List Entry). next_given (IsEntryOf node) node.1 shows_hidden place es others within) first second
 
 pub shown_told : (node : NodeState) (shows_hidden : Bool) (place : ℕ) (a b : Bool) (x y : Option Text)
-    → IsPlaceShown node.1 shows_hidden place → WritesEntries (IsEntryOf node place) a b x y
+    → IsPlaceToBeDrawn node.1 shows_hidden place → WritesEntries (IsEntryOf node place) a b x y
     → WritesEntries (IsPlaceGiven (IsEntryOf node) node.1 shows_hidden place) a b x y
 shown_told node shows_hidden place a b x y shown told = (told.0, inl (shown, told.1), told.2, told.3)
 
 pub hidden_told : (node : NodeState) (shows_hidden : Bool) (place : ℕ) (a : Bool) (x : Option Text)
-    → ¬ (IsPlaceShown node.1 shows_hidden place)
+    → ¬ (IsPlaceToBeDrawn node.1 shows_hidden place)
     → WritesEntries (IsPlaceGiven (IsEntryOf node) node.1 shows_hidden place) a a x x
 hidden_told node shows_hidden place a x hidden =
     nothing_written (IsPlaceGiven (IsEntryOf node) node.1 shows_hidden place) a x (inr (hidden, refl))

@@ -27,17 +27,17 @@ Grows held holds = (text : Text) × Appends held holds text
 -- ---- which changesets
 
 -- what is held is drawn, or of it what is visible under the pins
-abbrev pub IsShown : KeptValue → Bool → Node → Type 0
-IsShown kept true n = Unit {0}
-IsShown kept false n = IsVisibleUnder (content_of kept.replica) kept.pins n
+abbrev pub IsToBeDrawn : KeptValue → Bool → Node → Type 0
+IsToBeDrawn kept true n = Unit {0}
+IsToBeDrawn kept false n = IsVisibleUnder (content_of kept.replica) kept.pins n
 
 -- the changeset stands at the place
 abbrev pub StandsAt : KeptValue → ℕ → Node → Type 0
 StandsAt kept place n = slice_get (nodes (changesets kept.replica.history)) place ≡ Some n
 
 -- what stands there is to be drawn
-abbrev pub IsPlaceShown : KeptValue → Bool → ℕ → Type 0
-IsPlaceShown kept shows_hidden place = (n : Node) × StandsAt kept place n × IsShown kept shows_hidden n
+abbrev pub IsPlaceToBeDrawn : KeptValue → Bool → ℕ → Type 0
+IsPlaceToBeDrawn kept shows_hidden place = (n : Node) × StandsAt kept place n × IsToBeDrawn kept shows_hidden n
 
 -- ---- texts of changesets
 
@@ -63,8 +63,8 @@ IsDrawnText n text =
 -- what the place gives: so much where what stands there is to be drawn, and nothing where it isn't
 abbrev pub IsPlaceGiven : {A : Type 0} → (ℕ → List A → Type 0) → KeptValue → Bool → ℕ → List A → Type 0
 IsPlaceGiven Gives kept shows_hidden place items =
-    (IsPlaceShown kept shows_hidden place × Gives place items)
-    ⊎ ((¬ (IsPlaceShown kept shows_hidden place)) × (items ≡ []))
+    (IsPlaceToBeDrawn kept shows_hidden place × Gives place items)
+    ⊎ ((¬ (IsPlaceToBeDrawn kept shows_hidden place)) × (items ≡ []))
 
 -- the same of so many places, from this one on, the last first
 abbrev pub ArePlacesGiven : {A : Type 0} → (ℕ → List A → Type 0) → KeptValue → Bool → ℕ → ℕ → List A → Type 0

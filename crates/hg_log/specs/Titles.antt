@@ -5,7 +5,6 @@ use Rattle.std.specs.Char.{is_ascii_hexdigit}
 use Rattle.std.specs.Char.Escape.{escape_ascii}
 use Rattle.std.specs.List.{before_first, flat_map, list_all}
 use Rattle.hg_changeset.specs.Contents.{Contents}
-use Rattle.hg_changeset.specs.Changeset.{last_line}
 use Rattle.hg_log.specs.Drawings.{Text}
 
 abbrev pub is_line_feed : ℕ → Bool
@@ -27,9 +26,9 @@ behind_empty_line (a ∷ b ∷ rest) =
 abbrev pub title : Text → Option Text
 title text = if begins_with_manifest text then option_map (before_first is_line_feed) (behind_empty_line text) else None
 
--- what a changeset is called: its title, or else the last line of its text
+-- what a changeset is called beside its id: its title, where it has one
 abbrev pub label_of : Contents → Text
-label_of c = unwrap_or (title c.text) (last_line c)
+label_of c = unwrap_or (title c.text) []
 
 -- a label as it is written: what isn't printed, quotes and backslashes are escaped
 abbrev pub escaped : Text → Text

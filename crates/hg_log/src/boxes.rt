@@ -57,17 +57,25 @@ fn push_key(
     push_text(line, b"\"")
 }
 
-// Appends what a changeset is called below its id, where it is known.
+// Appends the label of a changeset below its id, where it is known and has one.
 fn push_label_below(line: &mut Vec<u8>, changeset: Option<&Changeset>) -> Result<(), AllocError>
     ensures { OnOk result (Extends line.old.items line.new.items) }
 {
     match changeset {
-        Some(changeset) => {
-            push_text(line, b"\\n")?;
-            push_quoted(line, label_of(changeset))
-        }
+        Some(changeset) => push_line_below(line, label_of(changeset)),
         None => Ok(()),
     }
+}
+
+// Appends a further line, if there is something on it.
+fn push_line_below(line: &mut Vec<u8>, text: &[u8]) -> Result<(), AllocError>
+    ensures { OnOk result (Extends line.old.items line.new.items) }
+{
+    if text.is_empty() {
+        return Ok(());
+    }
+    push_text(line, b"\\n")?;
+    push_quoted(line, text)
 }
 
 /// Appends the phase of a changeset, what is unstable about it, and how its box looks, up to the end of its line.

@@ -8,8 +8,8 @@ ghost use Rattle.hg_log.specs.Titles.{escaped};
 
 use crate::colour::{Colour, push_coloured};
 use crate::line::push_text;
-use crate::titles::label_of;
-use hg_changeset::Node;
+use crate::titles::{label_of, title_of};
+use hg_changeset::{Changeset, Node};
 use hg_replica::Replica;
 use hg_view::Status;
 use std::alloc::AllocError;
@@ -47,7 +47,19 @@ fn push_escape(line: &mut Vec<u8>, byte: u8) -> Result<(), AllocError>
     Ok(())
 }
 
-/// Appends what a changeset is called that may not be held: its label, or else its short id.
+/// Appends a blank and the label of a changeset, where it has one.
+pub(crate) fn push_label_of(line: &mut Vec<u8>, changeset: &Changeset) -> Result<(), AllocError>
+    ensures { OnOk result (Extends line.old.items line.new.items) }
+{
+    let label = label_of(changeset);
+    if label.is_empty() {
+        return Ok(());
+    }
+    push_text(line, b" ")?;
+    push_label(line, label)
+}
+
+/// Appends what a changeset is called that may not be held: the first line of its description, or else its short id.
 pub(crate) fn push_name(
     line: &mut Vec<u8>,
     replica: &Replica,
@@ -55,8 +67,19 @@ pub(crate) fn push_name(
     is_coloured: bool,
 ) -> Result<(), AllocError> {
     match replica.graph().changeset(node) {
-        Some(changeset) => push_label(line, label_of(changeset)),
+        Some(changeset) => push_title(line, changeset, is_coloured),
         None => push_id(line, node, is_coloured),
+    }
+}
+
+fn push_title(
+    line: &mut Vec<u8>,
+    changeset: &Changeset,
+    is_coloured: bool,
+) -> Result<(), AllocError> {
+    match title_of(changeset) {
+        Some(title) => push_label(line, title),
+        None => push_id(line, changeset.node(), is_coloured),
     }
 }
 

@@ -72,7 +72,8 @@ fn single_word(operation: Option<&[u8]>) -> &'static [u8]
     }
 }
 
-// The word for an operation that puts one changeset in place of another.
+// The word for an operation that puts one changeset in place of another: of those that Mercurial and evolve note, and
+// scripts make, each that has one. What else is noted rewrites.
 fn word_of(operation: &[u8]) -> &'static [u8]
     ensures { result.now ≡ word_of operation.now }
 {
@@ -84,6 +85,18 @@ fn word_of(operation: &[u8]) -> &'static [u8]
     }
     if is_word(operation, b"relocate") {
         return b"relocated";
+    }
+    if is_word(operation, b"rebase") {
+        return b"rebased";
+    }
+    if is_word(operation, b"evolve") {
+        return b"evolved";
+    }
+    if is_word(operation, b"uncommit") {
+        return b"uncommitted";
+    }
+    if is_word(operation, b"absorb") {
+        return b"absorbed";
     }
     b"rewritten"
 }

@@ -7,14 +7,13 @@ ghost use Rattle.hg_log.specs.Drawings.{AreAllDrawn, Grows, HasId, IsDrawnText, 
 
 use crate::cells::{Line, needs_padding, push_columns};
 use crate::columns::{Columns, Row};
-use crate::described::{push_id, push_label, push_unstable};
+use crate::described::{push_id, push_label_of, push_unstable};
 use crate::fate::{fates, push_fate};
 use crate::fault::DrawFault;
 use crate::kind::kind_of;
 use crate::line::{push_text, write_appended};
 use crate::look::Look;
 use crate::shown::{Shown, node_at};
-use crate::titles::label_of;
 use hg_changeset::Node;
 use hg_replica::Replica;
 use hg_view::Kept;
@@ -27,10 +26,10 @@ use std::io::Write;
 /// The changesets come from the last place to the first, so each before its parents, in columns as Mercurial's `log -G`
 /// draws them. A row begins with the columns, where the changeset has `o`, or `*` where it is an orphan or divergent,
 /// `x` where it is obsolete, and `#` where it is hidden. Behind them stand the first 12 digits of its id, its label,
-/// its phase, and the words for what is unstable. The label is the first line of its description, where its text is
-/// that of an entry, and else the last line of its text. The next line has the edges to the next row. On it and on
-/// lines below stands what became of an obsolete changeset, a line for each marker, by the labels of its successors or,
-/// where they aren't held, by their ids. Say `b` stood on `a`, and `c` on `b`, when `b` was amended:
+/// its phase, and the words for what is unstable. The label is the first line of its description; where its text isn't
+/// that of an entry, it has none. The next line has the edges to the next row. On it and on lines below stands what
+/// became of an obsolete changeset, a line for each marker, by the labels of its successors or, where they have none or
+/// aren't held, by their ids. Say `b` stood on `a`, and `c` on `b`, when `b` was amended:
 ///
 /// ```text
 /// o  6f1c9a0b27d4 b2 draft
@@ -122,8 +121,7 @@ fn push_description(
     let changeset = replica.graph().changeset_at(place).unwrap();
     let phase = replica.phase_at(place).unwrap();
     push_id(line, node, is_coloured)?;
-    push_text(line, b" ")?;
-    push_label(line, label_of(changeset))?;
+    push_label_of(line, changeset)?;
     push_text(line, b" ")?;
     push_text(line, phase.word().as_bytes())?;
     push_unstable(line, kept.status(node), is_coloured)

@@ -39,9 +39,9 @@ use std::io::Write;
 /// ]
 /// ```
 ///
-/// - `desc` is the label, as [`draw_log`](crate::draw_log) has it. Where a label is UTF-8 its characters stand for
-///   themselves, but quotes, backslashes and control characters are escaped. Where it isn't, a byte above 127 is a lone
-///   surrogate, as Python's `surrogateescape` reads it.
+/// - `desc` is the label, as [`draw_log`](crate::draw_log) has it, and empty where there is none. Where it is UTF-8 its
+///   characters stand for themselves, but quotes, backslashes and control characters are escaped. Where it isn't, a
+///   byte above 127 is a lone surrogate, as Python's `surrogateescape` reads it.
 /// - `hidden` says that it isn't visible under the pins.
 /// - `instabilities` has `orphan`, `phase-divergent` and `content-divergent`, where they are so.
 /// - `parents` are ids: the null id alone where there is no parent, and two of a merge, the lesser first.

@@ -1,7 +1,7 @@
 //! Which changesets are drawn.
 ghost use Rattle.std.specs.Prelude.{◌<◌, ◌↔◌, IsTrue, length};
 ghost use Rattle.hg_phases.specs.State.{changesets};
-ghost use Rattle.hg_log.specs.Drawings.{IsPlaceShown, StandsAt};
+ghost use Rattle.hg_log.specs.Drawings.{IsPlaceToBeDrawn, StandsAt};
 
 use hg_changeset::Node;
 use hg_view::Kept;
@@ -30,7 +30,7 @@ impl<'a> Shown<'a> {
 
     /// Whether the changeset at this place is drawn.
     pub(crate) fn has_place(&self, place: usize) -> bool
-        ensures { IsTrue result ↔ IsPlaceShown self.now.kept.now self.now.shows_hidden place }
+        ensures { IsTrue result ↔ IsPlaceToBeDrawn self.now.kept.now self.now.shows_hidden place }
     {
         match self.kept.replica().graph().node_at(place) {
             Some(node) => self.shows_hidden || self.kept.is_visible(node),

@@ -9,14 +9,14 @@ use hg_changeset::Changeset;
 // How many digits the text of an entry begins with.
 const MANIFEST_DIGITS: usize = 40;
 
-/// What a changeset is called: the first line of its description, where its text is that of an entry, and else the last
-/// line of its text.
+/// What a changeset is called beside its id: the first line of its description, where its text is that of an entry.
+/// Other text is opaque, and gives no label.
 pub(crate) fn label_of(changeset: &Changeset) -> &[u8]
     ensures { result.now ≡ label_of changeset.now }
 {
     match title_of(changeset) {
         Some(title) => title,
-        None => changeset.last_line(),
+        None => b"",
     }
 }
 

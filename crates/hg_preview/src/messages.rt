@@ -47,9 +47,7 @@ pub fn write_trial<W: Write>(
         × Appends (W.contents writer.old) (W.contents writer.new) text) }
 {
     let mut trial = Trial::new(alloc, keys)?;
-
-    // The call tells that what it holds is valid.
-    let _ = trial.kept();
+    trial.kept().replica().is_valid();
     let mut answers = Vec::new(alloc);
     for message in messages {
         answers.push(answer(alloc, &mut trial, message, writer)?)?;

@@ -172,7 +172,7 @@ abbrev pub IsMessageShown : List ℕ → Text → Type 0
 IsMessageShown bytes text = (m : MessageValue) × (message_at bytes ≡ Ok m) × IsMessageText m text
 
 -- of bytes of each form
-abbrev pub IsShown : Form → List ℕ → Text → Type 0
-IsShown store bytes text = IsStoreShown bytes text
-IsShown roots bytes text = AreRootsShown bytes text
-IsShown message bytes text = IsMessageShown bytes text
+abbrev pub AreBytesShown : Form → List ℕ → Text → Type 0
+AreBytesShown store bytes text = IsStoreShown bytes text
+AreBytesShown roots bytes text = AreRootsShown bytes text
+AreBytesShown message bytes text = IsMessageShown bytes text

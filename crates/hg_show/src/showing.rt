@@ -2,7 +2,7 @@
 ghost use Rattle.std.specs.Prelude.{◌≡◌, ◌⊎◌, ◌<◌, List, ℕ, IfSome, IsErrOf, OnOk, length};
 ghost use Rattle.std.specs.Io.KnownBytes.{Appends};
 ghost use Rattle.hg_show.specs.Answers.{IsInput, EndsInput, ShowAnswer, fault_in, input_limit};
-ghost use Rattle.hg_show.specs.Printing.{IsShown, Text};
+ghost use Rattle.hg_show.specs.Printing.{AreBytesShown, Text};
 
 use crate::fault::ShowFault;
 use crate::form::Form;
@@ -28,7 +28,7 @@ pub fn show<R: BufRead, W: Write>(
     ensures answer { EndsInput (R.remaining reader.old) (R.remaining reader.new) result
         ⊎ ((bytes : List ℕ) × IsInput (R.remaining reader.old) bytes × ShowAnswer (fault_in form bytes) result) }
     ensures printed { OnOk result ((bytes : List ℕ) × (text : Text) × IsInput (R.remaining reader.old) bytes
-        × IsShown form bytes text × Appends (W.contents writer.old) (W.contents writer.new) text) }
+        × AreBytesShown form bytes text × Appends (W.contents writer.old) (W.contents writer.new) text) }
     ensures too_long { IsErrOf result ShowFault.TooLong
         → IfSome (R.remaining reader.old) (λ bytes. input_limit < length bytes) }
 {
@@ -52,7 +52,7 @@ pub fn show_bytes<W: Write>(
     ensures unprinted { IfSome (fault_in form bytes.now) (λ _. W.contents writer.new ≡ W.contents writer.old) }
 
     // What is printed is what the bytes say: only the text of a date, and of a changeset all but its id, is left open.
-    ensures printed { OnOk result ((text : Text) × IsShown form bytes.now text
+    ensures printed { OnOk result ((text : Text) × AreBytesShown form bytes.now text
         × Appends (W.contents writer.old) (W.contents writer.new) text) }
 {
     match form {

@@ -1,5 +1,5 @@
 -- Blocks that are written one after the other.
-use Rattle.std.proofs.Common.{◌≡◌, ◌+◌, ℕ, suc, ◌++◌, [], Option, refl, sym, subst, ◌∙◌, append_assoc, arith}
+use Rattle.std.proofs.Common.{◌≡◌, ◌+◌, ℕ, suc, ◌++◌, [], List, Option, refl, sym, subst, ◌∙◌, append_assoc, arith}
 use Rattle.std.proofs.Common.{inl, inr, length, codes}
 use Rattle.std.specs.Io.KnownBytes.{Appends}
 use Rattle.std.proofs.KnownBytes.{Appends-nil, Appends-trans}
@@ -9,9 +9,11 @@ use Rattle.hg_changeset.specs.declared.node.Node.{Node}
 use Rattle.hg_phases.specs.State.{changesets}
 use Rattle.hg_replica.specs.Content.{content_of}
 use Rattle.hg_view.specs.Kept.{KeptValue}
-use Rattle.hg_log.specs.Drawings.{IsDrawnText, IsLine, StandsAt, Text}
+use Rattle.hg_log.specs.Drawings.{IsLine, StandsAt, Text}
 use Rattle.hg_log.specs.Kinds.{IsUnstable}
-use Rattle.hg_why.specs.Blocks.{AreBlocks, IsBlockAt, IsWhy}
+use Rattle.hg_why.specs.declared.reason.Reason.{Reason}
+use Rattle.hg_why.specs.Blocks.{AreBlocks, IsBlockAt, IsBlockOf, IsWhy}
+use Rattle.hg_why.specs.Causes.{AreReasons}
 
 -- the heading is written, and the blocks of so many places
 abbrev pub AreWritten : Text → KeptValue → ℕ → Option Text → Option Text → Type 0
@@ -63,8 +65,9 @@ stable-block kept place n a stands stable = (
   Appends-nil a,
 )
 
-pub unstable-block : (kept : KeptValue) (place : ℕ) (n : Node) (a b : Option Text) → StandsAt kept place n
-    → IsUnstable (content_of kept.replica) n → ((text : Text) × IsDrawnText n text × Appends a b text)
+pub unstable-block : (kept : KeptValue) (place : ℕ) (n : Node) (reasons : List Reason) (a b : Option Text)
+    → StandsAt kept place n → IsUnstable (content_of kept.replica) n → AreReasons (content_of kept.replica) n reasons
+    → ((text : Text) × IsBlockOf n reasons text × Appends a b text)
     → (here : Text) × IsBlockAt kept place here × Appends a b here
-unstable-block kept place n a b stands unstable drawn =
-    (drawn.0, inl (n, (stands, unstable), drawn.1), drawn.2)
+unstable-block kept place n reasons a b stands unstable are block =
+    (block.0, inl (n, reasons, (stands, unstable), are, block.1), block.2)

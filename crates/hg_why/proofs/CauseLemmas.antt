@@ -25,7 +25,7 @@ use Rattle.hg_instab.specs.Local.{StandsUnstably}
 use Rattle.hg_log.specs.Kinds.{IsUnstable}
 use Rattle.hg_why.specs.declared.reason.Reason.{Reason}
 use Rattle.hg_why.specs.Causes.{Adds, AreReasons, Cause, HasItsSets, IsByOne, IsByParent, IsByThis, IsCause}
-use Rattle.hg_why.specs.Causes.{IsUnsteady, Tells, cause_of}
+use Rattle.hg_why.specs.Causes.{IsObsoleteOrOrphan, Tells, cause_of}
 use Rattle.hg_why.specs.Causes.Cause.{parent, public_before, several_before}
 
 module _ (f : Content) where
@@ -187,29 +187,29 @@ module _ (f : Content) where
   -- ---- a parent
 
   -- what the tests tell of a parent that is obsolete or an orphan
-  unsteady-told : (p : Node) (o u : Bool) → IsTrue o ↔ IsObsolete f p → IsTrue u ↔ IsOrphan f p
-      → IsTrue o ⊎ IsTrue u → IsUnsteady f p o
-  unsteady-told p true u obsolete orphan either = obsolete.0 refl
-  unsteady-told p false u obsolete orphan (inl t) = absurd (true≢false (sym t))
-  unsteady-told p false u obsolete orphan (inr t) = orphan.0 t
+  obsolete_or_orphan-told : (p : Node) (o u : Bool) → IsTrue o ↔ IsObsolete f p → IsTrue u ↔ IsOrphan f p
+      → IsTrue o ⊎ IsTrue u → IsObsoleteOrOrphan f p o
+  obsolete_or_orphan-told p true u obsolete orphan either = obsolete.0 refl
+  obsolete_or_orphan-told p false u obsolete orphan (inl t) = absurd (true≢false (sym t))
+  obsolete_or_orphan-told p false u obsolete orphan (inr t) = orphan.0 t
 
-  unsteady-one : (p : Node) (b o : Bool) → IsTrue o ↔ IsObsolete f p → IsUnsteady f p b → b ≡ o
-  unsteady-one p true o obsolete is = sym (obsolete.1 is)
-  unsteady-one p false true obsolete is = absurd (is.0.1 (obsolete.0 refl))
-  unsteady-one p false false obsolete is = refl
+  obsolete_or_orphan-one : (p : Node) (b o : Bool) → IsTrue o ↔ IsObsolete f p → IsObsoleteOrOrphan f p b → b ≡ o
+  obsolete_or_orphan-one p true o obsolete is = sym (obsolete.1 is)
+  obsolete_or_orphan-one p false true obsolete is = absurd (is.0.1 (obsolete.0 refl))
+  obsolete_or_orphan-one p false false obsolete is = refl
 
   pub this-parent : (p : Node) (o u : Bool) → IsTrue o ↔ IsObsolete f p → IsTrue u ↔ IsOrphan f p
       → IsTrue o ⊎ IsTrue u → p ≢ null_node → (cause : Cause) → IsByThis f p cause ↔ (parent p o ≡ cause)
   this-parent p o u obsolete orphan either there cause = (
-    λ h. ap (parent p) (sym (unsteady-one p h.0 o obsolete h.2)) ∙ h.3,
-    λ is. (o, there, unsteady-told p o u obsolete orphan either, is),
+    λ h. ap (parent p) (sym (obsolete_or_orphan-one p h.0 o obsolete h.2)) ∙ h.3,
+    λ is. (o, there, obsolete_or_orphan-told p o u obsolete orphan either, is),
   )
 
   pub no-parent : (p : Node) (o u : Bool) → IsTrue o ↔ IsObsolete f p → IsTrue u ↔ IsOrphan f p
       → ¬ (IsTrue o ⊎ IsTrue u) → (cause : Cause) → ¬ (IsByThis f p cause)
   no-parent p o u obsolete orphan neither cause h = by h.0 h.2
     where
-      by : (b : Bool) → IsUnsteady f p b → ⊥
+      by : (b : Bool) → IsObsoleteOrOrphan f p b → ⊥
       by true is = neither (inl (obsolete.1 is))
       by false is = neither (inr (orphan.1 is))
 

@@ -4,3 +4,4 @@ pub mod BlockLemmas
 pub mod DividerLemmas
 pub mod NameLemmas
 pub mod FateLemmas
+pub mod ReasonLemmas

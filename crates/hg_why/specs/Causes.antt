@@ -21,13 +21,13 @@ pub data Cause : Type 0 where
   several_before : Node → Cause
 
 -- it is obsolete, or else an orphan
-abbrev pub IsUnsteady : Content → Node → Bool → Type 0
-IsUnsteady f p true = IsObsolete f p
-IsUnsteady f p false = IsOrphan f p
+abbrev pub IsObsoleteOrOrphan : Content → Node → Bool → Type 0
+IsObsoleteOrOrphan f p true = IsObsolete f p
+IsObsoleteOrOrphan f p false = IsOrphan f p
 
 -- the changeset is unstable by this
 abbrev pub IsCause : Content → Node → Cause → Type 0
-IsCause f n (parent p is_obsolete) = IsOrphan f n × IsParentOf f p n × IsUnsteady f p is_obsolete
+IsCause f n (parent p is_obsolete) = IsOrphan f n × IsParentOf f p n × IsObsoleteOrOrphan f p is_obsolete
 IsCause f n (public_before p) = IsCurrent f n × HasPhase f p Public × Precedes f (λ m. ¬ (IsBumpedFix m)) p n
 IsCause f n (several_before p) = IsCurrent f n × HasSeveral f p × Precedes f IsAny p n
 
@@ -71,7 +71,7 @@ IsByParent f n cause =
 -- the cause is this one, if that is an id of a parent, for what is obsolete, or an orphan
 abbrev pub IsByThis : Content → Node → Cause → Type 0
 IsByThis f p cause =
-    (is_obsolete : Bool) × (p ≢ null_node) × IsUnsteady f p is_obsolete × (parent p is_obsolete ≡ cause)
+    (is_obsolete : Bool) × (p ≢ null_node) × IsObsoleteOrOrphan f p is_obsolete × (parent p is_obsolete ≡ cause)
 
 -- the cause is so made of an id that is so
 abbrev pub IsByOne : (Node → Cause) → (Node → Type 0) → Cause → Type 0

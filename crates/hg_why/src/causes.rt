@@ -27,7 +27,7 @@ pub fn reasons(alloc: Global, kept: &Kept, node: Node) -> Result<Vec<Reason>, Al
     ensures { IfOk result (λ reasons. AreReasons (content_of kept.now.replica) node reasons.items) }
 {
     // They tell that the replica is valid, and that an orphan stands on an obsolete parent, or on an orphan.
-    let _ = kept.replica();
+    kept.replica().is_valid();
     neighbours_decide_what_is_orphan_and_extinct();
     let mut found = Vec::new(alloc);
     add_parents(kept, node, &mut found)?;
@@ -63,7 +63,7 @@ fn add_parent(kept: &Kept, parent: Node, reasons: &mut Vec<Reason>) -> Result<()
         return Ok(());
     }
     let status = kept.status(parent);
-    if !is_unsteady(status) {
+    if !is_obsolete_or_orphan(status) {
         return Ok(());
     }
     let is_obsolete = status.obsolete;
@@ -74,7 +74,7 @@ fn add_parent(kept: &Kept, parent: Node, reasons: &mut Vec<Reason>) -> Result<()
     Ok(())
 }
 
-fn is_unsteady(status: Status) -> bool
+fn is_obsolete_or_orphan(status: Status) -> bool
     ensures { IsTrue result ↔ (IsTrue status.obsolete ⊎ IsTrue status.orphan) }
 {
     status.obsolete || status.orphan

@@ -25,8 +25,9 @@
 //!
 //! # Modules
 //!
-//! `before` has the walk over markers to what precedes an id, `causes` the reasons, `fate` what became of a changeset,
-//! and `fate_line` writes that. `named` and `told` write what changesets are called and what a reason says, `why` the
+//! `before` has the walk over markers to what precedes an id, `reason` what a reason is, `causes` all of them; `fate`
+//! has what became of a changeset, and `fate_line` writes that. `moves` tells to where an orphan is moved, and `remedy`
+//! whether that is written. `named` and `told` write what changesets are called and what a reason says, `why` the
 //! blocks.
 #![tactic(auto)]
 
@@ -34,6 +35,7 @@ mod before;
 mod causes;
 mod fate;
 mod fate_line;
+mod moves;
 mod named;
 mod reason;
 mod remedy;

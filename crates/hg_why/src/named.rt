@@ -1,7 +1,7 @@
 //! What changesets are called.
 ghost use Rattle.std.specs.Prelude.{◌≡◌, ◌++◌, OnOk, option_map};
 ghost use Rattle.hg_replica.specs.Content.{content_of};
-ghost use Rattle.hg_log.specs.Drawings.{HasId};
+ghost use Rattle.hg_log.specs.Drawings.{Extends, HasId};
 ghost use Rattle.hg_why.specs.Names.{name_of, title_at};
 
 use hg_changeset::Node;
@@ -58,7 +58,9 @@ pub(crate) fn push_successors(
     line: &mut Vec<u8>,
     replica: &Replica,
     nodes: &[Node],
-) -> Result<(), AllocError> {
+) -> Result<(), AllocError>
+    ensures { OnOk result (Extends line.old.items line.new.items) }
+{
     let mut divider: &[u8] = b" as ";
     for node in nodes {
         push_text(line, divider)?;
@@ -68,8 +70,21 @@ pub(crate) fn push_successors(
     Ok(())
 }
 
-// The first line of a changeset's description, where it is held and its text is that of an entry.
-fn title_at(replica: &Replica, node: Node) -> Option<&[u8]>
+/// Appends names of changesets, each behind a blank.
+pub(crate) fn push_each_behind(
+    line: &mut Vec<u8>,
+    replica: &Replica,
+    nodes: &[Node],
+) -> Result<(), AllocError> {
+    for node in nodes {
+        push_text(line, b" ")?;
+        push_name(line, replica, *node)?;
+    }
+    Ok(())
+}
+
+/// The first line of a changeset's description, where it is held and its text is that of an entry.
+pub(crate) fn title_at(replica: &Replica, node: Node) -> Option<&[u8]>
     ensures { option_map (λ s. s.now) result ≡ title_at (content_of replica.now) node }
 {
     match replica.graph().changeset(node) {

@@ -1,16 +1,18 @@
 //! What is written of one reason.
 ghost use Rattle.std.specs.Prelude.{OnOk};
 ghost use Rattle.std.specs.Io.KnownBytes.{Appends};
-ghost use Rattle.hg_log.specs.Drawings.{Grows};
+ghost use Rattle.hg_log.specs.Drawings.{Extends, Grows, HasId, IsDrawnText, Text};
+ghost use Rattle.hg_why.specs.Blocks.{AreLinesOf, IsReasonText};
 
-use crate::named::{push_each_named, push_name, push_named, push_successors};
+use crate::moves::{Move, move_by, only_of};
+use crate::named::{push_each_behind, push_each_named, push_name, push_named, push_successors};
 use crate::reason::Reason;
 use crate::remedy::Remedy;
 use hg_changeset::Node;
 use hg_log::{DrawFault, push_short_id, push_text, rewriting_word, write_appended};
 use hg_marker::Marker;
 use hg_replica::Replica;
-use hg_succ::{Sets, successors_sets};
+use hg_succ::Sets;
 use hg_view::Kept;
 use std::alloc::{AllocError, Global};
 use std::io::Write;
@@ -40,7 +42,8 @@ impl<'a> Telling<'a> {
         line: &mut Vec<u8>,
         writer: &mut W,
     ) -> Result<(), DrawFault>
-        ensures { OnOk result (Grows (W.contents writer.old) (W.contents writer.new)) }
+        ensures { OnOk result ((text : Text) × IsReasonText reason.now text
+            × Appends (W.contents writer.old) (W.contents writer.new) text) }
     {
         match reason {
             Reason::Orphan {
@@ -65,7 +68,8 @@ impl<'a> Telling<'a> {
         line: &mut Vec<u8>,
         writer: &mut W,
     ) -> Result<(), DrawFault>
-        ensures { OnOk result (Grows (W.contents writer.old) (W.contents writer.new)) }
+        ensures { OnOk result ((text : Text) × IsDrawnText parent text
+            × Appends (W.contents writer.old) (W.contents writer.new) text) }
     {
         let appended = push_orphan(line, self.kept.replica(), parent, is_obsolete);
         write_appended(appended, line, writer)?;
@@ -91,7 +95,7 @@ impl<'a> Telling<'a> {
         }
     }
 
-    // Writes to where an orphan is moved, if its parent's successors sets tell a changeset.
+    // Writes to where an orphan is moved, if there is such a place.
     fn write_move<W: Write>(
         &self,
         node: Node,
@@ -101,44 +105,35 @@ impl<'a> Telling<'a> {
     ) -> Result<(), DrawFault>
         ensures { OnOk result (Grows (W.contents writer.old) (W.contents writer.new)) }
     {
-        let sets = successors_sets(self.alloc, self.kept.replica(), parent)?;
-        self.write_move_by(node, &sets, line, writer)
+        match move_by(self.alloc, self.kept, node, parent)? {
+            Some(found) => self.write_move_to(node, &found, line, writer),
+            None => Ok(()),
+        }
     }
 
-    // Writes to where an orphan is moved, if these successors sets of its parent tell a changeset.
-    fn write_move_by<W: Write>(
+    // Writes that an orphan is moved there.
+    fn write_move_to<W: Write>(
         &self,
         node: Node,
-        sets: &Sets,
+        found: &Move,
         line: &mut Vec<u8>,
         writer: &mut W,
     ) -> Result<(), DrawFault>
         ensures { OnOk result (Grows (W.contents writer.old) (W.contents writer.new)) }
     {
-        match target_of(sets) {
-            Some(target) => {
-                let appended = self.push_move(line, node, target, choice(sets));
-                write_appended(appended, line, writer)
-            }
-            None => Ok(()),
-        }
+        let appended = self.push_move(line, node, found);
+        write_appended(appended, line, writer)
     }
 
     // Appends the command by which a changeset is moved, and what is said of a choice.
-    fn push_move(
-        &self,
-        line: &mut Vec<u8>,
-        node: Node,
-        target: Node,
-        choice: &[u8],
-    ) -> Result<(), AllocError> {
+    fn push_move(&self, line: &mut Vec<u8>, node: Node, found: &Move) -> Result<(), AllocError> {
         push_text(line, b"  relocate ")?;
         push_text(line, self.name)?;
         push_text(line, b" ")?;
         push_name(line, self.kept.replica(), node)?;
-        push_text(line, b" NEW ")?;
-        push_name(line, self.kept.replica(), target)?;
-        push_text(line, choice)
+        push_text(line, b" NEW")?;
+        push_each_behind(line, self.kept.replica(), &found.parents)?;
+        push_text(line, choice(found.choices))
     }
 
     // Writes from which public changeset it comes.
@@ -149,7 +144,8 @@ impl<'a> Telling<'a> {
         line: &mut Vec<u8>,
         writer: &mut W,
     ) -> Result<(), DrawFault>
-        ensures { OnOk result (Grows (W.contents writer.old) (W.contents writer.new)) }
+        ensures { OnOk result ((text : Text) × IsDrawnText predecessor text
+            × Appends (W.contents writer.old) (W.contents writer.new) text) }
     {
         let appended = push_phase_divergent(line, self.kept.replica(), predecessor, node);
         write_appended(appended, line, writer)
@@ -166,7 +162,8 @@ impl<'a> Telling<'a> {
         line: &mut Vec<u8>,
         writer: &mut W,
     ) -> Result<(), DrawFault>
-        ensures { OnOk result (Grows (W.contents writer.old) (W.contents writer.new)) }
+        ensures { OnOk result ((text : Text) × AreLinesOf predecessor text
+            × Appends (W.contents writer.old) (W.contents writer.new) text) }
     {
         match sets {
             Sets::Family(family) => {
@@ -186,7 +183,8 @@ impl<'a> Telling<'a> {
         line: &mut Vec<u8>,
         writer: &mut W,
     ) -> Result<(), DrawFault>
-        ensures { OnOk result (Grows (W.contents writer.old) (W.contents writer.new)) }
+        ensures { OnOk result ((text : Text) × AreLinesOf predecessor text
+            × Appends (W.contents writer.old) (W.contents writer.new) text) }
     {
         if are_all_with(family, node) {
             return self.write_about(SHARED, predecessor, line, writer);
@@ -205,7 +203,8 @@ impl<'a> Telling<'a> {
         line: &mut Vec<u8>,
         writer: &mut W,
     ) -> Result<(), DrawFault>
-        ensures { OnOk result (Grows (W.contents writer.old) (W.contents writer.new)) }
+        ensures { OnOk result ((text : Text) × IsDrawnText predecessor text
+            × Appends (W.contents writer.old) (W.contents writer.new) text) }
     {
         let appended = push_about(line, words, self.kept.replica(), predecessor);
         write_appended(appended, line, writer)
@@ -222,9 +221,10 @@ impl<'a> Telling<'a> {
         line: &mut Vec<u8>,
         writer: &mut W,
     ) -> Result<(), DrawFault>
-        ensures { OnOk result (Grows (W.contents writer.old) (W.contents writer.new)) }
+        ensures { OnOk result ((text : Text) × AreLinesOf predecessor text
+            × Appends (W.contents writer.old) (W.contents writer.new) text) }
     {
-        if set.contains(&node) || is_told(earlier, set) {
+        if set.contains(&node) || any_has_set(earlier, set) {
             return Ok(());
         }
         let appended = self.push_other(line, node, predecessor, set);
@@ -238,7 +238,9 @@ impl<'a> Telling<'a> {
         node: Node,
         predecessor: Node,
         others: &[Node],
-    ) -> Result<(), AllocError> {
+    ) -> Result<(), AllocError>
+        ensures { OnOk result (HasId predecessor line.new.items) }
+    {
         let replica = self.kept.replica();
         push_text(line, b"  content-divergent with ")?;
         push_each_named(line, replica, others)?;
@@ -251,7 +253,9 @@ impl<'a> Telling<'a> {
     }
 
     // Appends from what it comes, where that isn't held.
-    fn push_unheld(&self, line: &mut Vec<u8>, predecessor: Node) -> Result<(), AllocError> {
+    fn push_unheld(&self, line: &mut Vec<u8>, predecessor: Node) -> Result<(), AllocError>
+        ensures { OnOk result (HasId predecessor line.new.items) }
+    {
         push_text(line, b" lead back to ")?;
         push_short_id(line, predecessor)?;
         push_text(line, b", which ")?;
@@ -266,7 +270,9 @@ fn push_about(
     words: &[u8],
     replica: &Replica,
     node: Node,
-) -> Result<(), AllocError> {
+) -> Result<(), AllocError>
+    ensures { OnOk result (HasId node line.new.items) }
+{
     push_text(line, words)?;
     push_named(line, replica, node)
 }
@@ -277,8 +283,22 @@ fn push_orphan(
     replica: &Replica,
     parent: Node,
     is_obsolete: bool,
-) -> Result<(), AllocError> {
+) -> Result<(), AllocError>
+    ensures { OnOk result (HasId parent line.new.items) }
+{
     push_about(line, b"  orphan: its parent ", replica, parent)?;
+    push_fate_of_parent(line, replica, parent, is_obsolete)
+}
+
+// Appends what is so of such a parent.
+fn push_fate_of_parent(
+    line: &mut Vec<u8>,
+    replica: &Replica,
+    parent: Node,
+    is_obsolete: bool,
+) -> Result<(), AllocError>
+    ensures { OnOk result (Extends line.old.items line.new.items) }
+{
     if !is_obsolete {
         return push_text(line, b" is an orphan");
     }
@@ -292,7 +312,9 @@ fn push_phase_divergent(
     replica: &Replica,
     predecessor: Node,
     node: Node,
-) -> Result<(), AllocError> {
+) -> Result<(), AllocError>
+    ensures { OnOk result (HasId predecessor line.new.items) }
+{
     push_text(line, b"  phase-divergent: it ")?;
     push_way_from(line, replica, predecessor, node)?;
     push_named(line, replica, predecessor)?;
@@ -313,7 +335,7 @@ fn all_of(others: &[Node]) -> &'static [u8] {
 }
 
 // Whether one of the reasons has this successors set.
-fn is_told(reasons: &[Reason], set: &[Node]) -> bool {
+fn any_has_set(reasons: &[Reason], set: &[Node]) -> bool {
     reasons.iter().any(|reason| match reason {
         Reason::ContentDivergent {
             predecessor: _,
@@ -330,58 +352,54 @@ fn has_set(sets: &Sets, set: &[Node]) -> bool {
     }
 }
 
-// The changeset to which an orphan is moved: the first successors set, where that is of one alone.
-fn target_of(sets: &Sets) -> Option<Node> {
-    match sets {
-        Sets::Family(family) => match family.first() {
-            Some(set) => only_of(set),
-            None => None,
-        },
-        Sets::Overfull => None,
-    }
-}
-
-fn only_of(set: &[Node]) -> Option<Node> {
-    match set {
-        [node] => Some(*node),
-        _ => None,
-    }
-}
-
 // What is said of a choice, where there is one.
-fn choice(sets: &Sets) -> &'static [u8] {
-    match sets {
-        Sets::Family(family) => match family.len() {
-            1 => b"",
-            2 => b"   (two successors: choose)",
-            _ => b"   (several successors: choose)",
-        },
-        Sets::Overfull => b"",
+fn choice(choices: usize) -> &'static [u8] {
+    match choices {
+        0 | 1 => b"",
+        2 => b"   (two successors: choose)",
+        _ => b"   (several successors: choose)",
     }
 }
 
 // Appends how a changeset was rewritten, and to what.
-fn push_ways(line: &mut Vec<u8>, replica: &Replica, node: Node) -> Result<(), AllocError> {
+fn push_ways(line: &mut Vec<u8>, replica: &Replica, node: Node) -> Result<(), AllocError>
+    ensures { OnOk result (Extends line.old.items line.new.items) }
+{
     let mut divider: &[u8] = b"";
-    let mut before: &[u8] = b"";
+    let mut before: &'static [u8] = b"";
     for place in replica.store().with_predecessor(node) {
-        match replica.store().get(*place) {
-            Some(marker) => {
-                let word = rewriting_word(marker);
-                push_text(line, divider)?;
-                push_other_word(line, word, before)?;
-                push_successors(line, replica, marker.successors())?;
-                before = word;
-            }
-            None => {}
-        }
+        before = push_way(line, replica, *place, divider, before)?;
         divider = b"; and";
     }
     Ok(())
 }
 
+// Appends how the marker at a place rewrites, by a word unless it is that of before, and to what. Gives the word.
+fn push_way(
+    line: &mut Vec<u8>,
+    replica: &Replica,
+    place: usize,
+    divider: &[u8],
+    before: &'static [u8],
+) -> Result<&'static [u8], AllocError>
+    ensures { OnOk result (Extends line.old.items line.new.items) }
+{
+    match replica.store().get(place) {
+        Some(marker) => {
+            let word = rewriting_word(marker);
+            push_text(line, divider)?;
+            push_other_word(line, word, before)?;
+            push_successors(line, replica, marker.successors())?;
+            Ok(word)
+        }
+        None => Ok(before),
+    }
+}
+
 // Appends a word behind a blank, unless it is that of before.
-fn push_other_word(line: &mut Vec<u8>, word: &[u8], before: &[u8]) -> Result<(), AllocError> {
+fn push_other_word(line: &mut Vec<u8>, word: &[u8], before: &[u8]) -> Result<(), AllocError>
+    ensures { OnOk result (Extends line.old.items line.new.items) }
+{
     if word == before {
         return Ok(());
     }
@@ -413,7 +431,9 @@ fn push_both_ways(
     predecessor: Node,
     node: Node,
     others: &[Node],
-) -> Result<(), AllocError> {
+) -> Result<(), AllocError>
+    ensures { OnOk result (Extends line.old.items line.new.items) }
+{
     let Some(other) = only_of(others) else {
         return Ok(());
     };
@@ -423,10 +443,17 @@ fn push_both_ways(
     let Some(another) = marker_between(replica, predecessor, other) else {
         return Ok(());
     };
+    push_words(line, rewriting_word(marker), rewriting_word(another))
+}
+
+// Appends two words in brackets.
+fn push_words(line: &mut Vec<u8>, first: &[u8], second: &[u8]) -> Result<(), AllocError>
+    ensures { OnOk result (Extends line.old.items line.new.items) }
+{
     push_text(line, b" (")?;
-    push_text(line, rewriting_word(marker))?;
+    push_text(line, first)?;
     push_text(line, b", ")?;
-    push_text(line, rewriting_word(another))?;
+    push_text(line, second)?;
     push_text(line, b")")
 }
 

@@ -2,8 +2,8 @@
 ghost use Rattle.std.specs.Prelude.{◌≡◌, ◌<◌, ◌++◌, OnOk, codes, length};
 ghost use Rattle.std.specs.Io.KnownBytes.{Appends};
 ghost use Rattle.hg_phases.specs.State.{changesets};
-ghost use Rattle.hg_log.specs.Drawings.{Grows, IsDrawnText, Text};
-ghost use Rattle.hg_why.specs.Blocks.{IsBlockAt, IsWhy};
+ghost use Rattle.hg_log.specs.Drawings.{ArePieces, Text};
+ghost use Rattle.hg_why.specs.Blocks.{IsBlockAt, IsBlockOf, IsReasonText, IsWhy};
 
 use crate::causes::reasons;
 use crate::named::push_named;
@@ -100,7 +100,7 @@ fn write_block<W: Write>(
     line: &mut Vec<u8>,
     writer: &mut W,
 ) -> Result<(), DrawFault>
-    ensures { OnOk result ((text : Text) × IsDrawnText node text
+    ensures { OnOk result ((text : Text) × IsBlockOf node reasons.now text
         × Appends (W.contents writer.old) (W.contents writer.new) text) }
 {
     let appended = push_named(line, telling.kept.replica(), node);
@@ -116,7 +116,8 @@ fn write_reasons<W: Write>(
     line: &mut Vec<u8>,
     writer: &mut W,
 ) -> Result<(), DrawFault>
-    ensures { OnOk result (Grows (W.contents writer.old) (W.contents writer.new)) }
+    ensures { OnOk result ((text : Text) × ArePieces IsReasonText reasons.now text
+        × Appends (W.contents writer.old) (W.contents writer.new) text) }
 {
     for (index, reason) in reasons.iter().enumerate() {
         telling.write_reason(node, reason, &reasons[..index], line, writer)?;

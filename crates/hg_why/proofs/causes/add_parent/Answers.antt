@@ -11,13 +11,13 @@ returns-then-is_null c =
     adds-nothing f (IsByThis f c.args.parent) c.args.reasons.now.items
     (λ cause h. h.1 (c.is_null.ensures.null.0 c.if-is_null.true))
 
-pub returns-then-not-is_unsteady : goal.returns-then-not-is_unsteady
-returns-then-not-is_unsteady c =
+pub returns-then-not-is_obsolete_or_orphan : goal.returns-then-not-is_obsolete_or_orphan
+returns-then-not-is_obsolete_or_orphan c =
     let f = content_of c.args.kept.now.replica in
     let told = c.status-status.ensures in
     adds-nothing f (IsByThis f c.args.parent) c.args.reasons.now.items
     (no-parent f c.args.parent _ _ told.obsolete told.orphan
-    (λ either. true≢false (sym (c.is_unsteady.ensures.1 either) ∙ c.if-not-is_unsteady.true)))
+    (λ either. true≢false (sym (c.is_obsolete_or_orphan.ensures.1 either) ∙ c.if-not-is_obsolete_or_orphan.true)))
 
 pub returns : goal.returns
 returns c =
@@ -27,6 +27,6 @@ returns c =
     adds-same f (λ (cause : Cause). parent c.args.parent is ≡ cause) (IsByThis f c.args.parent)
     c.args.reasons.now.items c.push.new.self.items
     (this-parent f c.args.parent is c.status-status.result.orphan told.obsolete told.orphan
-    (c.is_unsteady.ensures.0 c.if-not-is_unsteady.false)
+    (c.is_obsolete_or_orphan.ensures.0 c.if-not-is_obsolete_or_orphan.false)
     (λ null. true≢false (sym (c.is_null.ensures.null.1 null) ∙ c.if-is_null.false)))
     (adds-pushed f c.args.reasons.now.items c.push.new.self.items _ c.in_ok-push.ensures.items tt)

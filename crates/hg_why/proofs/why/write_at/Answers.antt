@@ -22,6 +22,6 @@ returns g c =
     let n = c.node_at-node.result in
     let are = subst (AreReasons f n) (sym c.as_slice-all.ensures.value) c.in_ok-found.ensures in
     on_ok_weaker c.write_block.result
-    (λ drawn. unstable-block kept c.args.place n _ _ c.node_at-node.ensures
-    (reasons-unstable f n c.as_slice-all.result.now are (sym c.is_empty.ensures ∙ c.if-is_empty.false)) drawn)
+    (unstable-block kept c.args.place n c.as_slice-all.result.now _ _ c.node_at-node.ensures
+    (reasons-unstable f n c.as_slice-all.result.now are (sym c.is_empty.ensures ∙ c.if-is_empty.false)) are)
     c.write_block.ensures

@@ -1,6 +1,6 @@
 use Rattle.std.proofs.lemmas.Result.{on_ok_weaker}
-use Rattle.hg_log.proofs.DrawingLemmas.{drawn_text}
 use Rattle.hg_log.proofs.TextLemmas.{at_ok}
+use Rattle.hg_why.proofs.ReasonLemmas.{block_of}
 use Rattle.hg_why.proofs.why.write_block.Goals as goal
 
 pub returns : goal.returns
@@ -8,5 +8,6 @@ returns g c =
     let named = c.push_named-appended in
     let written = c.in_ok-write_appended.ensures in
     on_ok_weaker c.write_reasons.result
-    (drawn_text c.args.node named.new.line.items _ _ _ (at_ok named.result written.0 named.ensures) written.1)
+    (block_of c.args.node c.args.reasons.now named.new.line.items _ _ _
+    (at_ok named.result written.0 named.ensures) written.1)
     c.write_reasons.ensures

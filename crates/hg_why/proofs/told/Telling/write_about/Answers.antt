@@ -1,5 +1,8 @@
-use Rattle.hg_log.proofs.TextLemmas.{grows_by_line}
+use Rattle.hg_why.proofs.ReasonLemmas.{drawn_line}
 use Rattle.hg_why.proofs.told.Telling.write_about.Goals as goal
 
 pub returns : goal.returns
-returns g c = grows_by_line _ c.write_appended.result _ _ _ c.write_appended.ensures
+returns g c =
+    let appended = c.push_about-appended in
+    drawn_line appended.result c.write_appended.result c.args.predecessor appended.new.line.items _ _ appended.ensures
+    c.write_appended.ensures
