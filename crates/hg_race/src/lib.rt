@@ -33,5 +33,3 @@ mod taking;
 
 pub use agreement::share_in_ring;
 pub use race::run_race;
-pub use seating::stations;
-pub use station::{Mailbox, Station};

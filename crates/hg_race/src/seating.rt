@@ -1,4 +1,4 @@
-//! New stations.
+//! Makes the two stations of a new inbox, which has room for four messages.
 ghost use Rattle.std.specs.Prelude.{◌≡◌, ◌+◌, ◌≤◌, [], IfOk};
 ghost use Rattle.hg_inbox.specs.Views.{inbox_state, seat_log};
 ghost use Rattle.hg_race.specs.Stations.{given_at, taken_at};
@@ -13,7 +13,7 @@ use std::sync::Arc;
 const CAPACITY: usize = 4;
 
 /// Two stations at a new inbox: the first one for who puts messages, the second one for who takes them.
-pub fn stations(alloc: Global) -> Result<(Station, Station), NoMemory>
+pub(crate) fn stations(alloc: Global) -> Result<(Station, Station), NoMemory>
     ensures given { IfOk result (λ both. (given_at both.0 ≡ []) × (given_at both.1 ≡ [])) }
     ensures taken { IfOk result (λ both. (taken_at both.0 ≡ []) × (taken_at both.1 ≡ [])) }
 {

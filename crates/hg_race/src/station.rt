@@ -8,7 +8,7 @@ use std::sync::{Arc, Wait};
 
 /// Where a thread puts messages, or takes them. Contracts see those that it was given and those that were taken from
 /// it, in their order.
-pub trait Mailbox {
+pub(crate) trait Mailbox {
     /// The messages that were put.
     ghost given: { Self → List (List ℕ) };
 
@@ -36,7 +36,7 @@ pub trait Mailbox {
 
 /// An inbox, and a seat at it.
 #[derive(Drop)]
-pub struct Station {
+pub(crate) struct Station {
     inbox: Arc<Inbox, Global>,
     seat: Seat,
     ghost of: { seat.inbox ≡ (arc_value inbox).name },

@@ -2,22 +2,19 @@
 use Rattle.std.proofs.Common.{◌≡◌, ◌⊎◌, inl, inr, ℕ, ◌+◌, ◌≤◌, ◌<◌, List, [], ◌∷◌, ◌++◌, length, get_or, slice_get}
 use Rattle.std.proofs.Common.{Bool, true, false, IsTrue, Option, Some, None, IsSome, is_some, IfSome, IsErrOf}
 use Rattle.std.proofs.Common.{Result, Ok, Err, IfOk, IfErr, refl, sym, ap, subst, ◌∙◌, arith, zero-add, zero, suc}
-use Rattle.std.proofs.Common.{true≢false, count_by, cond}
+use Rattle.std.proofs.Common.{true≢false, count_by, cond, map, ◌≢◌, ◌==◌, OnErr}
 use Rattle.std.specs.List.{AllByRecursion}
-use Rattle.std.specs.Option.{option_and_then}
+use Rattle.std.specs.Option.{option_and_then, option_copied}
 use Rattle.std.specs.Str.Lines.{lines}
-use Rattle.std.specs.declared.vec.Vec.{Vec}
-use Rattle.std.specs.declared.alloc.Global.{Global}
 use Rattle.std.proofs.KnownBytes.{Appends-nil, Appends-trans}
-use Rattle.std.proofs.lemmas.List.{append-nil, length-map}
+use Rattle.std.proofs.lemmas.List.{append-nil, append_assoc, length-map}
 use Rattle.std.proofs.lemmas.List.Sums.{sum_by-append}
 use Rattle.std.proofs.lemmas.Bool.{cases_lt}
 use Rattle.std.proofs.lemmas.Option.{same_Some}
 use mathlib.Core.Logic.{⊎_elim}
+use denote.Bor.{Bor}
 use Rattle.hg_changeset.specs.declared.node.Node.{Node}
-use Rattle.hg_changeset.proofs.ListLemmas.{slice_get-append_seam}
 use Rattle.hg_graph.specs.Graph.{nodes}
-use Rattle.hg_history.specs.declared.fault.Fault.{Fault}
 use Rattle.hg_replica.specs.Least.{PartValue}
 use Rattle.hg_view.specs.Kept.{KeptValue}
 use Rattle.hg_rewrite.specs.declared.op.Op.{Op}
@@ -26,12 +23,13 @@ use Rattle.hg_world.specs.declared.event.Event.TheVariants as event
 use Rattle.hg_message.specs.declared.scope.Scope.{Scope}
 use Rattle.hg_peer.specs.declared.ask.Ask.{Ask}
 use Rattle.hg_world.specs.declared.event.Answer.TheVariants.{Accepted, Offered, Marked, Refused}
-use Rattle.hg_peer.specs.declared.mark.Mark.{Mark}
+use Rattle.hg_peer.specs.declared.mark.Mark.{Mark as PeerMark}
 use Rattle.hg_fleet.specs.Pulls.{IsNowhere, IsOneAbsent, TellsAbsence}
 use Rattle.hg_peer.specs.Peers.{Decides}
 use Rattle.hg_peer.specs.Words.{peer_words, peer_state}
 use Rattle.hg_script.specs.declared.command.Command.{Command}
-use Rattle.hg_script.specs.declared.command.Command.TheVariants.{Operation as operation, Pull}
+use Rattle.hg_script.specs.declared.command.Command.TheVariants.{Node as node, Operation as operation, Mark, Offer}
+use Rattle.hg_script.specs.declared.command.Command.TheVariants.{Take, Pull, Report, Agree}
 use Rattle.hg_script.specs.declared.operation.Operation.{Operation}
 use Rattle.hg_script.specs.declared.command_fault.CommandFault.{CommandFault}
 use Rattle.hg_script.specs.declared.command_fault.CommandFault.TheVariants as ends
@@ -44,21 +42,21 @@ use Rattle.hg_script.specs.declared.fault.RunFault.TheVariants.{Line, ScriptTooL
 use Rattle.hg_script.specs.declared.fleet.Fleet.{Fleet}
 use Rattle.hg_script.specs.declared.telling.Notes.{Notes}
 use Rattle.hg_script.specs.Commands.{Text, Word, texts, CommandAnswer, LineAnswer}
-use Rattle.hg_script.specs.Endings.{UsesUnknown, AreLabelsFree, IsTakenFault, IsNodeFault, IsNameFault}
+use Rattle.hg_script.specs.Endings.{UsesUnknown, AreLabelsFree, IsTakenFault, IsNodeFault, IsNameFault, PrintsSome}
 use Rattle.hg_script.specs.Endings.{IsCommandFault, IsFaultOf, IsLeftBy, HasWords, Says, IsLineFault, IsOfLine, EndsAt}
-use Rattle.hg_script.specs.Endings.{StaysAtLine, StaysAtName}
+use Rattle.hg_script.specs.Endings.{AreWanting, StaysAtLine, StaysAtName, WantsMemory}
 use Rattle.hg_script.specs.Events.{Trace, PeerAnswer, no_trace, joined, Meaning, HasUnknown, IsUnknownWhere}
 use Rattle.hg_script.specs.Events.{IsOperation, TellAbsence, brought, is_refusal, new_labels, refusals}
-use Rattle.hg_script.specs.Faults.{IsInputFault, at_line}
+use Rattle.hg_script.specs.Faults.{IsInputFault, at_line, in_text_fault}
 use Rattle.hg_script.specs.Limits.{script_limit}
 use Rattle.hg_names.specs.Names.{AreDistinct}
-use Rattle.hg_script.specs.Outputs.{Printed}
-use Rattle.hg_script.specs.Printing.{WritesLine, WritesLines}
+use Rattle.hg_script.specs.Outputs.{Grows, Printed}
+use Rattle.hg_script.specs.Printing.{WritesLine, WritesLines, no_notes}
 use Rattle.hg_script.specs.Scripts.{places, ids, numbers, node_named, message_named, may_be_bound}
-use Rattle.hg_script.specs.Scripts.{IsNewFleet, IsLeftFleet, IsLeftWorld, IsScriptOf}
-use Rattle.hg_script.specs.Stops.{IsStop, IsStoppedBy, StopsAmong}
-use Rattle.hg_script.specs.Told.{IsEndedBy}
-use Rattle.hg_script.specs.Words.{has_node}
+use Rattle.hg_script.specs.Scripts.{Does, DoesLine, IsNewFleet, IsLeftFleet, IsLeftWorld, IsScriptOf}
+use Rattle.hg_script.specs.Stops.{IsStop, IsStoppedBy, IsUnbegun, StopsAmong, StopsAt}
+use Rattle.hg_script.specs.Outcomes.{IsEndedBy}
+use Rattle.hg_script.specs.Words.{has_node, words_of}
 use Rattle.hg_script.proofs.LabelLemmas.{twice_taken, nothing_free, new_apart, made_for}
 
 -- ---- names that stand for nothing
@@ -86,14 +84,14 @@ node_fault f command name place fault at leads (is, none) =
 
 -- where this is so, the command uses a name that stands for nothing
 pub fault_of_command : (P : Type 0) (f : Fleet) (command : Command) (fault : CommandFault)
-    → (P → UsesUnknown f command) → IsUnknownWhere P fault → IsFaultOf f command fault
-fault_of_command P f command (Name fault) leads (is, h) = subst (IsNameFault f command) (sym is) (leads h)
-fault_of_command P f command ends.Write leads h = tt
-fault_of_command P f command ends.NoMemory leads h = tt
+    → (P → UsesUnknown f command) → WantsMemory f command → IsUnknownWhere P fault → IsFaultOf f command fault
+fault_of_command P f command (Name fault) leads wants (is, h) = subst (IsNameFault f command) (sym is) (leads h)
+fault_of_command P f command ends.Write leads wants h = absurd h
+fault_of_command P f command ends.NoMemory leads wants h = wants
 
 pub unknown_where : (P Q : Type 0) (fault : CommandFault) → (P → Q) → IsUnknownWhere P fault → IsUnknownWhere Q fault
 unknown_where P Q (Name fault) leads (is, h) = (is, leads h)
-unknown_where P Q ends.Write leads h = tt
+unknown_where P Q ends.Write leads h = h
 unknown_where P Q ends.NoMemory leads h = tt
 
 -- a fault of a command that asks for no event
@@ -102,18 +100,90 @@ pub left_unchanged : {T : Type 0} (f : Fleet) (command : Command) (r : Result T 
 left_unchanged f command (Ok x) h = tt
 left_unchanged f command (Err fault) h = (h, (no_trace, refl))
 
+-- ---- what is printed, and what wants memory
+
+somewhere : {V W : Type 0} (g : V → Option W) (o : Option V) → IsSome (option_and_then g o) → IsSome o
+somewhere g None h = h
+somewhere g (Some v) h = refl
+
+-- a node that is there has its name
+pub placed : (f : Fleet) (name : Text) → IsSome (node_named f name) → IsSome (places f name)
+placed f name h = somewhere (slice_get f.world.nodes) (places f name) h
+
+-- a node that is there is one for which its command wants memory
+pub kept_wanting : (f : Fleet) (words : List Word) (command : Command) (name : Text) (r : Option (Bor KeptValue))
+    → CommandAnswer words (Ok (Some command)) → (IsSome (places f name) → WantsMemory f command)
+    → option_copied r ≡ node_named f name → IfSome r (λ k. AreWanting f words)
+kept_wanting f words command name None answer leads is = tt
+kept_wanting f words command name (Some k) answer leads is =
+    (command, answer, leads (placed f name (ap is_some (sym is))))
+
+-- a command that is done had what it needs
+pub done_wants : (f : Fleet) (command : Command) (t : Trace) (new : Fleet) → Does f command t new
+    → WantsMemory f command
+done_wants f (node at) t new does = does.named.0
+done_wants f (operation at op) t new does = ap is_some does.asked.2
+done_wants f (Mark at marking) t new does = ap is_some does.asked.2
+done_wants f (Offer scope at message labels) t new does = ap is_some does.asked.2
+done_wants f (Take at message) t new does = ap is_some does.asked.2
+done_wants f (Pull scope to from) t new does = ap is_some does.asked.4
+done_wants f (Report at) t new does = placed f at.now does.asked.0
+done_wants f (Agree one other) t new does = (placed f one.now does.asked.0, placed f other.now does.asked.1)
+
+-- one of whose events is refused prints that
+pub refused_prints : (f : Fleet) (command : Command) (t : Trace) (new : Fleet) → Does f command t new
+    → 1 ≤ refusals t → PrintsSome f command
+refused_prints f (node at) t new does some = (t, new, does, some)
+refused_prints f (operation at op) t new does some = (t, new, does, some)
+refused_prints f (Mark at marking) t new does some = (t, new, does, some)
+refused_prints f (Offer scope at message labels) t new does some = (t, new, does, some)
+refused_prints f (Take at message) t new does some = (t, new, does, some)
+refused_prints f (Pull scope to from) t new does some = (t, new, does, some)
+refused_prints f (Report at) t new does some = does.asked.0
+refused_prints f (Agree one other) t new does some = (does.asked.0, does.asked.1)
+
+-- what prints wants memory
+pub prints_wants : (f : Fleet) (command : Command) → PrintsSome f command → WantsMemory f command
+prints_wants f (node at) (t, new, does, some) = done_wants f (node at) t new does
+prints_wants f (operation at op) (t, new, does, some) = done_wants f (operation at op) t new does
+prints_wants f (Mark at marking) (t, new, does, some) = done_wants f (Mark at marking) t new does
+prints_wants f (Offer scope at message labels) (t, new, does, some) =
+    done_wants f (Offer scope at message labels) t new does
+prints_wants f (Take at message) (t, new, does, some) = done_wants f (Take at message) t new does
+prints_wants f (Pull scope to from) (t, new, does, some) = done_wants f (Pull scope to from) t new does
+prints_wants f (Report at) some = placed f at.now some
+prints_wants f (Agree one other) (here, there) = (placed f one.now here, placed f other.now there)
+
 -- what prints can end the script by a write fault, or for want of memory
-pub print_fault : (f : Fleet) (command : Command) (fault : CommandFault)
+pub print_fault : (f : Fleet) (command : Command) (fault : CommandFault) → PrintsSome f command
     → (fault ≡ ends.Write) ⊎ (fault ≡ ends.NoMemory) → IsFaultOf f command fault
-print_fault f command fault (inl e) = subst (IsFaultOf f command) (sym e) tt
-print_fault f command fault (inr e) = subst (IsFaultOf f command) (sym e) tt
+print_fault f command fault prints (inl e) = subst (IsFaultOf f command) (sym e) prints
+print_fault f command fault prints (inr e) = subst (IsFaultOf f command) (sym e) (prints_wants f command prints)
+
+-- refusals are counted
+pub refused_here : (answer : PeerAnswer) (answers : List PeerAnswer) → is_refusal answer ≡ true
+    → 1 ≤ count_by is_refusal (answer ∷ answers)
+refused_here answer answers h =
+    let one : count_by is_refusal (answer ∷ []) ≡ 1 = ap (λ (b : Bool). 0 + cond b 1 0) h in
+    let all = sum_by-append (λ (a : PeerAnswer). cond (is_refusal a) 1 0) (answer ∷ []) answers in
+    omega (arith, one, all)
+
+pub refused_later : (answer : PeerAnswer) (answers : List PeerAnswer) → 1 ≤ count_by is_refusal answers
+    → 1 ≤ count_by is_refusal (answer ∷ answers)
+refused_later answer answers h =
+    let all = sum_by-append (λ (a : PeerAnswer). cond (is_refusal a) 1 0) (answer ∷ []) answers in
+    omega (arith, h, all)
+
+pub on_err_always : {T E P : Type 0} (r : Result T E) → P → OnErr r P
+on_err_always (Ok x) h = tt
+on_err_always (Err e) h = h
 
 -- a command that ended so is one whose line did
 pub left_by : (number : ℕ) (old : Fleet) (command : Command) (fault : CommandFault) (new : Fleet)
     → IsEndedBy old command fault new → IsLeftBy number old command (at_line number fault) new
 left_by number old command (Name fault) new (is, ran) = ((refl, is), ran)
-left_by number old command ends.Write new (is, ran) = (tt, ran)
-left_by number old command ends.NoMemory new (is, ran) = (tt, ran)
+left_by number old command ends.Write new (is, ran) = (is, ran)
+left_by number old command ends.NoMemory new (is, ran) = (is, ran)
 
 -- one label among several
 pub unknown_at : (names : Meaning Node) (labels : List Word) (i : ℕ) (d : Word) → i < length labels
@@ -143,7 +213,7 @@ pub local_nowhere : (f : Fleet) (at : Word) (place : ℕ) (op : Op) → places f
 local_nowhere f at place op is (inl none) = node_from_place f at.now place None is none
 local_nowhere f at place op is (inr h) = absurd h
 
-pub mark_nowhere : (f : Fleet) (at : Word) (place : ℕ) (mark : Mark) → places f at.now ≡ Some place
+pub mark_nowhere : (f : Fleet) (at : Word) (place : ℕ) (mark : PeerMark) → places f at.now ≡ Some place
     → IsNowhere f.world (event.Mark place mark) → node_named f at.now ≡ None
 mark_nowhere f at place mark is (inl none) = node_from_place f at.now place None is none
 mark_nowhere f at place mark is (inr h) = absurd h
@@ -206,7 +276,7 @@ taken_fault f at op asked state labels (Name fault) same meant held (is, (part, 
       taken = subst (λ (ls : List Text). may_be_bound (ids f) ls made ≡ false) same taken;
     })
 taken_fault f at op asked state labels ends.Write same meant held h = absurd h
-taken_fault f at op asked state labels ends.NoMemory same meant held h = tt
+taken_fault f at op asked state labels ends.NoMemory same meant held h = placed f at.now (ap is_some held)
 
 -- ---- lines
 
@@ -256,8 +326,97 @@ pub command_ends : (number : ℕ) (f : Fleet) (line : Text) (command : Command) 
 command_ends number f line command (Line told fault) says (n, h) = (n, name_fault f line command fault says h)
 command_ends number f line command ScriptTooLong says h = h
 command_ends number f line command Read says h = h
-command_ends number f line command Write says h = (command, says)
-command_ends number f line command NoMemory (words, has, answer) h = (has.0, inr (command, (words, has, answer)))
+command_ends number f line command Write says h = (command, says, h)
+command_ends number f line command NoMemory (words, has, answer) h = (has.0, inr (command, (words, has, answer), h))
+
+-- words that are a command which wants memory
+pub wanting_ends : (number : ℕ) (f : Fleet) (line : Text) (words : List Word) → HasWords line words
+    → AreWanting f words → EndsAt number f line NoMemory
+wanting_ends number f line words has (command, answer, wants) =
+    (has.0, inr (command, (words, has, answer), wants))
+
+-- a line that is done and has words
+pub done_ends : (number : ℕ) (f : Fleet) (line : Text) (t : Trace) (new : Fleet) → words_of line ≢ []
+    → DoesLine f line t new → EndsAt number f line NoMemory
+done_ends number f line t new some (short, (words, mapped, inl (none, same, stays))) =
+    absurd (some (sym mapped ∙ ap (map (λ (w : Word). w.now)) none))
+done_ends number f line t new some (short, (words, mapped, inr (command, answer, does))) =
+    (short, inr (command, (words, (short, mapped), answer), done_wants f command t new does))
+
+-- a line that is done and refused says a command that prints
+pub refused_says : (f : Fleet) (line : Text) (t : Trace) (new : Fleet) → DoesLine f line t new → 1 ≤ refusals t
+    → (command : Command) × Says line command × PrintsSome f command
+refused_says f line t new (short, (words, mapped, inl (none, same, stays))) some =
+    let zeros : refusals t ≡ 0 = ap (λ (u : Trace). refusals u) same in
+    absurd (omega (arith, zeros, some))
+refused_says f line t new (short, (words, mapped, inr (command, answer, does))) some =
+    (command, (words, (short, mapped), answer), refused_prints f command t new does some)
+
+-- what prints wants memory
+pub write_ends : (number : ℕ) (f : Fleet) (line : Text) → EndsAt number f line Write → EndsAt number f line NoMemory
+write_ends number f line (command, (words, has, answer), prints) =
+    (has.0, inr (command, (words, has, answer), prints_wants f command prints))
+
+-- a line whose refusals can't be told
+pub untold_ends : (number : ℕ) (f : Fleet) (line : Text) (t : Trace) (new : Fleet) (fault : CommandFault)
+    → DoesLine f line t new → 1 ≤ refusals t → (fault ≡ ends.Write) ⊎ (fault ≡ ends.NoMemory)
+    → EndsAt number f line (at_line number fault)
+untold_ends number f line t new fault does some (inl e) =
+    subst (λ (c : CommandFault). EndsAt number f line (at_line number c)) (sym e) (refused_says f line t new does some)
+untold_ends number f line t new fault does some (inr e) =
+    subst (λ (c : CommandFault). EndsAt number f line (at_line number c)) (sym e)
+    (write_ends number f line (refused_says f line t new does some))
+
+pub untold_not_own : (number : ℕ) (fault : CommandFault) → (fault ≡ ends.Write) ⊎ (fault ≡ ends.NoMemory)
+    → IsOfLine (at_line number fault) → ⊥
+untold_not_own number fault (inl e) own = subst (λ (c : CommandFault). IsOfLine (at_line number c)) e own
+untold_not_own number fault (inr e) own = subst (λ (c : CommandFault). IsOfLine (at_line number c)) e own
+
+-- what ended a line that prints into a text ends it so
+pub text_ends : (number : ℕ) (f : Fleet) (line : Text) (fault : RunFault) → EndsAt number f line fault
+    → EndsAt number f line (in_text_fault fault)
+text_ends number f line (Line told fault) h = h
+text_ends number f line ScriptTooLong h = h
+text_ends number f line Read h = h
+text_ends number f line Write h = write_ends number f line h
+text_ends number f line NoMemory h = h
+
+-- and ends the script, whichever its notes are
+pub text_stops : (notes : Notes) (number : ℕ) (f : Fleet) (line : Text) (fault : RunFault) → EndsAt number f line fault
+    → StopsAt notes number f line (in_text_fault fault)
+text_stops notes number f line (Line told fault) h = h
+text_stops notes number f line ScriptTooLong h = h
+text_stops notes number f line Read h = h
+text_stops notes number f line Write h = write_ends number f line h
+text_stops notes number f line NoMemory h = h
+
+-- what ends a line ends the script that is run without notes
+pub bare_stops : (number : ℕ) (f : Fleet) (line : Text) (fault : RunFault) → EndsAt number f line fault
+    → StopsAt no_notes number f line fault
+bare_stops number f line (Line told fault) h = h
+bare_stops number f line ScriptTooLong h = h
+bare_stops number f line Read h = h
+bare_stops number f line Write h = inl (refl, h)
+bare_stops number f line NoMemory h = h
+
+-- and is a line's own fault only where that was
+pub text_own : (fault : RunFault) → IsOfLine (in_text_fault fault) → IsOfLine fault
+text_own (Line number fault) own = own
+text_own ScriptTooLong own = own
+text_own Read own = own
+text_own Write own = absurd own
+text_own NoMemory own = own
+
+-- a line has the words that it is divided into
+pub some_words : (line : Text) (words : List Word) → HasWords line words → words ≢ [] → words_of line ≢ []
+some_words line [] has some none = some refl
+some_words line (w ∷ words) has some none =
+    let empty : map (λ (v : Word). v.now) (w ∷ words) ≡ [] = has.1 ∙ none in
+    cc
+
+-- a text that isn't empty
+pub not_nil : {A : Type 0} (xs : List A) → (length xs == 0) ≡ false → xs ≢ []
+not_nil {A = A} xs h e = true≢false (sym (ap (λ (ys : List A). length ys == 0) e) ∙ h)
 
 pub over_limit : (b : Bool) (n m : ℕ) → (n ≤ m → b ≡ true) → b ≡ false → m < n
 over_limit b n m within over_it =
@@ -265,22 +424,36 @@ over_limit b n m within over_it =
 
 -- ---- lines in order
 
+-- what a line wrote until it ended, which is nothing where its own fault ended it
+own_more : (fault : RunFault) (held holds : Option Text) → (IsOfLine fault → holds ≡ held) → Grows held holds
+    → (more : Text) × (IsOfLine fault → more ≡ []) × Printed held more holds
+own_more (Line number fault) held holds stays grew =
+    ([], λ own. refl, subst (λ (h : Option Text). Printed held [] h) (sym (stays tt)) (Appends-nil held))
+own_more ScriptTooLong held holds stays (more, grew) = (more, λ own. absurd own, grew)
+own_more Read held holds stays (more, grew) = (more, λ own. absurd own, grew)
+own_more Write held holds stays (more, grew) = (more, λ own. absurd own, grew)
+own_more NoMemory held holds stays (more, grew) = (more, λ own. absurd own, grew)
+
 -- the line after those that were done ended the script
 pub stops_here : (notes : Notes) (number : ℕ) (f : Fleet) (ls more : List Text) (line : Text) (fault : RunFault)
-    (held holds : Option Text) → ls ≡ line ∷ more → EndsAt number f line fault → (IsOfLine fault → holds ≡ held)
-    → StopsAmong notes number f ls fault held holds
-stops_here notes number f ls more line fault held holds e ends stays = record {
-  before = [];
-  line = line;
-  after = more;
-  divided = e;
-  trace = no_trace;
-  mid = f;
-  output = [];
-  did = (refl, refl, refl);
-  ends = subst (λ (n : ℕ). EndsAt n f line fault) (sym (zero-add number)) ends;
-  printed = λ own. subst (λ (h : Option Text). Printed held [] h) (sym (stays own)) (Appends-nil held);
-}
+    (held holds : Option Text) → ls ≡ line ∷ more → StopsAt notes number f line fault
+    → (IsOfLine fault → holds ≡ held) → Grows held holds → StopsAmong notes number f ls fault held holds
+stops_here notes number f ls more line fault held holds e ends stays grew =
+    let wrote = own_more fault held holds stays grew in
+    record {
+      before = [];
+      line = line;
+      after = more;
+      divided = e;
+      trace = no_trace;
+      mid = f;
+      output = [];
+      did = (refl, refl, refl);
+      ends = subst (λ (n : ℕ). StopsAt notes n f line fault) (sym (zero-add number)) ends;
+      more = wrote.0;
+      own = wrote.1;
+      printed = wrote.2;
+    }
 
 -- one line more was done before
 pub stops_later : (notes : Notes) (number : ℕ) (f mid : Fleet) (line : Text) (ls : List Text) (here : Trace)
@@ -299,8 +472,11 @@ stops_later notes number f mid line ls here first fault held between holds wrote
       mid = s.mid;
       output = first ++ s.output;
       did = (mid, here, s.trace, first, s.output, wrote, s.did, refl, refl);
-      ends = subst (λ (n : ℕ). EndsAt n s.mid s.line fault) count s.ends;
-      printed = λ own. Appends-trans held between holds first s.output grew (s.printed own);
+      ends = subst (λ (n : ℕ). StopsAt notes n s.mid s.line fault) count s.ends;
+      more = s.more;
+      own = s.own;
+      printed = subst (λ (text : Text). Printed held text holds) (sym (append_assoc first s.output s.more))
+          (Appends-trans held between holds first (s.output ++ s.more) grew s.printed);
     }
 
 -- what is refused in two runs, one after the other, is what is refused in both
@@ -381,24 +557,6 @@ stays_told number (Name fault) held holds stays told name is = stays fault refl
 stays_told number ends.Write held holds stays told name is = absurd (cc)
 stays_told number ends.NoMemory held holds stays told name is = absurd (cc)
 
--- what is told of a fault is a line's own only if it is that fault
-pub own_told : (fault told : RunFault) → (told ≡ fault) ⊎ (told ≡ NoMemory) → IsOfLine told → told ≡ fault
-own_told fault told (inl e) own = e
-own_told fault told (inr e) own = absurd (subst IsOfLine e own)
-
--- what is told of a fault that ended the line is that fault, or want of memory
-pub told_of : (number : ℕ) (f : Fleet) (line : Text) (fault told : RunFault) → (told ≡ fault) ⊎ (told ≡ NoMemory)
-    → EndsAt number f line fault → (told ≡ NoMemory) ⊎ EndsAt number f line told
-told_of number f line fault told (inl same) ends = inr (subst (EndsAt number f line) (sym same) ends)
-told_of number f line fault told (inr none) ends = inl none
-
--- and of one that want of memory may stand for already
-pub told_again : (number : ℕ) (f : Fleet) (line : Text) (fault told : RunFault) → (told ≡ fault) ⊎ (told ≡ NoMemory)
-    → (fault ≡ NoMemory) ⊎ EndsAt number f line fault → (told ≡ NoMemory) ⊎ EndsAt number f line told
-told_again number f line fault told (inl same) (inl none) = inl (same ∙ none)
-told_again number f line fault told (inr want) (inl none) = inl want
-told_again number f line fault told is (inr ends) = told_of number f line fault told is ends
-
 -- ---- whole scripts
 
 pub script_of : (known : Option Text) (items text : Text) → text ≡ items → length items ≤ script_limit
@@ -418,31 +576,29 @@ pub left_world : (known : Option Text) (fleet : Fleet) → IsLeftFleet known fle
 left_world known fleet (text, script, (run, e)) = (text, script, run)
 
 -- what stopped the lines of a text, from a new fleet on, stopped the text
-pub stopped_told : (notes : Notes) (text : Text) (start : Fleet) (fault : RunFault) (held holds : Option Text)
-    → IsNewFleet (count_by has_node (lines text)) start
-    → (fault ≡ NoMemory) ⊎ StopsAmong notes 1 start (lines text) fault held holds
-    → (fault ≡ NoMemory) ⊎ IsStoppedBy notes text fault held holds
-stopped_told notes text start fault held holds new (inl e) = inl e
-stopped_told notes text start fault held holds new (inr stops) =
-    inr (record { start = start; is_new = new; stops = stops })
+pub stopped_text : (notes : Notes) (text : Text) (start : Fleet) (fault : RunFault) (held holds : Option Text)
+    → IsNewFleet (count_by has_node (lines text)) start → StopsAmong notes 1 start (lines text) fault held holds
+    → IsStoppedBy notes text fault held holds
+stopped_text notes text start fault held holds new stops = record { start = start; is_new = new; stops = stops }
 
 -- what stopped the text that was read is what stopped the script
 pub stop_of : (notes : Notes) (known : Option Text) (text : Text) (fault : RunFault) (held holds : Option Text)
-    → IsScriptOf known text → (fault ≡ NoMemory) ⊎ IsStoppedBy notes text fault held holds
+    → IsScriptOf known text → IsUnbegun fault held holds ⊎ IsStoppedBy notes text fault held holds
     → IsStop notes known fault held holds
-stop_of notes known text (Line number fault) held holds script (inl e) = absurd (cc)
+stop_of notes known text (Line number fault) held holds script (inl (e, same)) = absurd (cc)
 stop_of notes known text (Line number fault) held holds script (inr h) = (text, script, h)
-stop_of notes known text ScriptTooLong held holds script (inl e) = absurd (cc)
+stop_of notes known text ScriptTooLong held holds script (inl (e, same)) = absurd (cc)
 stop_of notes known text ScriptTooLong held holds script (inr h) = absurd h.stops.ends
-stop_of notes known text Read held holds script (inl e) = absurd (cc)
+stop_of notes known text Read held holds script (inl (e, same)) = absurd (cc)
 stop_of notes known text Read held holds script (inr h) = absurd h.stops.ends
-stop_of notes known text Write held holds script (inl e) = absurd (cc)
+stop_of notes known text Write held holds script (inl (e, same)) = absurd (cc)
 stop_of notes known text Write held holds script (inr h) = (text, script, h)
-stop_of notes known text NoMemory held holds script h = tt
+stop_of notes known text NoMemory held holds script (inl (e, same)) = inl same
+stop_of notes known text NoMemory held holds script (inr h) = inr (text, script, h)
 
 pub stops_of : {T E : Type 0} (notes : Notes) (fault_of : E → RunFault) (known : Option Text) (text : Text)
     (r : Result T E) (held holds : Option Text) → IsScriptOf known text
-    → IfErr r (λ e. (fault_of e ≡ NoMemory) ⊎ IsStoppedBy notes text (fault_of e) held holds)
+    → IfErr r (λ e. IsUnbegun (fault_of e) held holds ⊎ IsStoppedBy notes text (fault_of e) held holds)
     → IfErr r (λ e. IsStop notes known (fault_of e) held holds)
 stops_of notes fault_of known text (Ok x) held holds script h = tt
 stops_of notes fault_of known text (Err e) held holds script h =
@@ -467,4 +623,4 @@ input_stop notes known (Line number fault) held is long = absurd (not_line numbe
 input_stop notes known ScriptTooLong held is long = (long refl, refl)
 input_stop notes known Read held is long = refl
 input_stop notes known Write held is long = absurd (not_write is)
-input_stop notes known NoMemory held is long = tt
+input_stop notes known NoMemory held is long = inl refl

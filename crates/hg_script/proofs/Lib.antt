@@ -1,6 +1,7 @@
 pub mod ByLineLemmas
 pub mod EndingLemmas
 pub mod GatherLemmas
+pub mod GrowLemmas
 pub mod InputLemmas
 pub mod LabelLemmas
 pub mod NameLemmas

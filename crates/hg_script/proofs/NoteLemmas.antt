@@ -1,5 +1,5 @@
 -- What is written of a line with its notes.
-use Rattle.std.proofs.Common.{◌≡◌, ℕ, List, [], ◌∷◌, ◌++◌, Bool, true, false, refl, sym, ap, ◌∙◌, inl, inr}
+use Rattle.std.proofs.Common.{Bool, true, false, refl, inl}
 use Rattle.hg_script.specs.Commands.{Text}
 use Rattle.hg_script.specs.Printing.{IsExplained, IsTraced}
 

@@ -27,8 +27,8 @@ use Rattle.hg_script.specs.declared.fleet.Fleet.{Fleet}
 use Rattle.hg_script.specs.declared.output.LineName.{LineName}
 use Rattle.hg_script.specs.declared.output.LineName.TheVariants.{Number}
 use Rattle.hg_script.specs.declared.telling.Notes.{Notes}
-use Rattle.hg_script.specs.declared.told.Told.{Told}
-use Rattle.hg_script.specs.declared.told.Told.TheVariants.{Nothing}
+use Rattle.hg_script.specs.declared.line_outcome.LineOutcome.{LineOutcome}
+use Rattle.hg_script.specs.declared.line_outcome.LineOutcome.TheVariants.{Nothing}
 use Rattle.hg_script.specs.Commands.{Text, Word}
 use Rattle.hg_script.specs.Endings.{Says}
 use Rattle.hg_script.specs.Limits.{line_limit}
@@ -39,7 +39,7 @@ use Rattle.hg_script.specs.Printing.{ShowsLine, WritesLine, WritesLines, WritesR
 use Rattle.hg_script.proofs.NoteLemmas.{same_explained, same_traced}
 use Rattle.hg_script.specs.Reports.{IsReport}
 use Rattle.hg_script.specs.Scripts.{places, node_named, Does, DoesWords, DoesLine, DoesLines, IsNewFleet, IsRunTo}
-use Rattle.hg_script.specs.Told.{IsAnswered, IsAskedOf, IsDone, Shows, told_answers}
+use Rattle.hg_script.specs.Outcomes.{IsAnswered, IsAskedOf, IsDone, Shows, outcome_answers}
 use Rattle.hg_script.specs.Words.{has_node, words_of}
 
 -- two runs, one after the other, are one
@@ -94,7 +94,7 @@ pub pulls : (old : Fleet) (scope : Scope) (to from : Word) (giver taker : ℕ) (
     → Pulls old.world taker giver scope answers new.world → ArePrinted answers
     → new.nodes ≡ old.nodes → new.labels ≡ old.labels → new.messages ≡ old.messages
     → (t : Trace) × (answers ≡ t.answers) × Does old (Pull scope to from) t new
-pulls old scope to from giver taker answers new at_from at_to p told nodes labels messages = (
+pulls old scope to from giver taker answers new at_from at_to p printed nodes labels messages = (
   record {
     events = event.Offer giver (asking scope p.common) ∷ taken taker answers;
     answers = answers;
@@ -104,7 +104,7 @@ pulls old scope to from giver taker answers new at_from at_to p told nodes label
   record {
     asked = (giver, taker, p.common, at_from, at_to, p.left_out, refl);
     ran = p.ran;
-    told = told;
+    printed = printed;
     named = (nodes, labels, messages);
   },
 )
@@ -146,10 +146,10 @@ alone : (line : LineName) (t : Trace) (text : Text) → t.answers ≡ [] → tex
 alone line t text none = ap (λ (answers : List PeerAnswer). text ++ answer_lines line answers) none ∙ append-nil text
 
 -- a command that shows nothing
-pub quiet : {E : Type 0} (old : Fleet) (command : Command) (new : Fleet) (held : Option Text) (r : Result Told E)
-    → ((t : Trace) → Shows old command t []) → IfOk r (λ told. IsAskedOf old command told new)
-    → IfOk r (λ told. IsAnswered old command told new held held)
-quiet old command new held (Ok told) shows (t, is, does) = (t, [], is, does, shows t, Appends-nil held)
+pub quiet : {E : Type 0} (old : Fleet) (command : Command) (new : Fleet) (held : Option Text) (r : Result LineOutcome E)
+    → ((t : Trace) → Shows old command t []) → IfOk r (λ outcome. IsAskedOf old command outcome new)
+    → IfOk r (λ outcome. IsAnswered old command outcome new held held)
+quiet old command new held (Ok outcome) shows (t, is, does) = (t, [], is, does, shows t, Appends-nil held)
 quiet old command new held (Err e) shows h = tt
 
 -- what a command shows, and then the refusals of its events, are what it prints
@@ -167,11 +167,12 @@ prints_shown line f (Report at) t text (none, (state, there, report)) =
 prints_shown line f (Agree one other) t text (none, (first, second, answer, there, too, same, is)) =
     (first, second, answer, there, too, same, alone (Number line) t text none ∙ is)
 
-pub done : (line : ℕ) (old : Fleet) (command : Command) (told : Told) (new : Fleet) (held between holds : Option Text)
-    → IsAnswered old command told new held between
-    → Printed between (answer_lines (Number line) (told_answers told)) holds
-    → IsDone line old command told new held holds
-done line old command told new held between holds (t, text, is, does, shows, grew) more = (
+pub done : (line : ℕ) (old : Fleet) (command : Command) (outcome : LineOutcome) (new : Fleet)
+    (held between holds : Option Text)
+    → IsAnswered old command outcome new held between
+    → Printed between (answer_lines (Number line) (outcome_answers outcome)) holds
+    → IsDone line old command outcome new held holds
+done line old command outcome new held between holds (t, text, is, does, shows, grew) more = (
   t,
   text ++ answer_lines (Number line) t.answers,
   is,
@@ -188,7 +189,7 @@ reported f at state held holds there (text, report, grew) = (
   no_trace,
   text,
   refl,
-  record { asked = (ap is_some there, refl); ran = refl; told = tt; named = (refl, refl, refl) },
+  record { asked = (ap is_some there, refl); ran = refl; printed = tt; named = (refl, refl, refl) },
   (refl, (state, there, report)),
   grew,
 )
@@ -205,7 +206,7 @@ agreed f one other first second answer held holds there too same grew = (
   record {
     asked = (ap is_some there, ap is_some too, refl);
     ran = refl;
-    told = tt;
+    printed = tt;
     named = (refl, refl, refl);
   },
   (refl, (first, second, answer, there, too, same, refl)),

@@ -3,7 +3,6 @@ use Rattle.std.specs.Prelude.{ℕ, ◌≤◌, ◌≡◌, ◌≢◌, ◌+◌, Lis
 use Rattle.std.specs.Prelude.{IfSome, Bool, if◌then◌else◌, Option, Some, None, Result, Ok, Err}
 use denote.Bor.{Bor}
 use Rattle.std.specs.List.{AllPass}
-use Rattle.hg_phases.specs.declared.phase.Phase.{Phase}
 use Rattle.hg_phases.specs.Words.{phase_word}
 use Rattle.hg_script.specs.Words.{is_name}
 use Rattle.hg_script.specs.declared.command.Command.{Command}

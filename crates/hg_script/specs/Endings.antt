@@ -23,10 +23,10 @@ use Rattle.hg_script.specs.declared.fault.RunFault.TheVariants.{Line, ScriptTooL
 use Rattle.hg_script.specs.declared.fleet.Fleet.{Fleet}
 use Rattle.hg_script.specs.Commands.{Text, Word, texts, CommandAnswer}
 use Rattle.hg_script.specs.Events.{Trace, Ran, Meaning, HasUnknown, AreIds, IsOperation, old_labels, new_labels}
-use Rattle.hg_script.specs.Events.{marked_label}
+use Rattle.hg_script.specs.Events.{marked_label, refusals}
 use Rattle.hg_script.specs.Limits.{line_limit}
 use Rattle.hg_names.specs.Names.{AreDistinct}
-use Rattle.hg_script.specs.Scripts.{places, ids, numbers, node_named, message_named, may_be_bound}
+use Rattle.hg_script.specs.Scripts.{places, ids, numbers, node_named, message_named, may_be_bound, Does}
 use Rattle.hg_script.specs.Words.{words_in_place, words_of}
 
 -- ---- faults of names
@@ -86,25 +86,48 @@ IsTakenFault names labels state op ends.NoMemory = Unit {0}
 abbrev pub IsNodeFault : Snapshot KeptValue → ℕ → CommandFault → Type 0
 IsNodeFault world place fault = (fault ≡ Name UnknownName) × (slice_get world.nodes place ≡ None)
 
+-- ---- what is printed, and what wants memory
+
+-- the command prints something: the nodes that it tells of are there, or it is done and an event of it is refused
+abbrev pub PrintsSome : Fleet → Command → Type 0
+PrintsSome f (Report at) = IsSome (node_named f at.now)
+PrintsSome f (Agree one other) = IsSome (node_named f one.now) × IsSome (node_named f other.now)
+PrintsSome f command = (t : Trace) × (new : Fleet) × Does f command t new × (1 ≤ refusals t)
+
+-- the node that the command changes or tells of has its name, or a node that it adds is the first of its name: where
+-- that isn't so, the command ends before it wants memory
+abbrev pub WantsMemory : Fleet → Command → Type 0
+WantsMemory f (node at) = places f at.now ≡ None
+WantsMemory f (operation at op) = IsSome (places f at.now)
+WantsMemory f (Mark at marking) = IsSome (places f at.now)
+WantsMemory f (Offer scope at message labels) = IsSome (places f at.now)
+WantsMemory f (Take at message) = IsSome (places f at.now)
+WantsMemory f (Pull scope to from) = IsSome (places f to.now)
+WantsMemory f (Report at) = IsSome (places f at.now)
+WantsMemory f (Agree one other) = IsSome (places f one.now) × IsSome (places f other.now)
+
+-- ---- faults of commands
+
 -- which fault the names of a command show
 abbrev pub IsNameFault : Fleet → Command → LineFault → Type 0
 IsNameFault f command UnknownName = UsesUnknown f command
 IsNameFault f command NameTaken = GivesTaken f command
 IsNameFault f command _ = ⊥
 
--- how a command can end the script
+-- how a command can end the script: by a name of it, by a write fault where it prints something, or for want of memory
+-- where it wants some
 abbrev pub IsFaultOf : Fleet → Command → CommandFault → Type 0
 IsFaultOf f command (Name fault) = IsNameFault f command fault
-IsFaultOf f command ends.Write = Unit {0}
-IsFaultOf f command ends.NoMemory = Unit {0}
+IsFaultOf f command ends.Write = PrintsSome f command
+IsFaultOf f command ends.NoMemory = WantsMemory f command
 
 -- the same of the command of the line with this number
 abbrev pub IsCommandFault : ℕ → Fleet → Command → RunFault → Type 0
 IsCommandFault number f command (Line told fault) = (told ≡ number) × IsNameFault f command fault
 IsCommandFault number f command ScriptTooLong = ⊥
 IsCommandFault number f command Read = ⊥
-IsCommandFault number f command Write = Unit {0}
-IsCommandFault number f command NoMemory = Unit {0}
+IsCommandFault number f command Write = PrintsSome f command
+IsCommandFault number f command NoMemory = WantsMemory f command
 
 -- the command ended the script so, and what the world did until then is a run
 abbrev pub IsLeftBy : ℕ → Fleet → Command → RunFault → Fleet → Type 0
@@ -141,13 +164,18 @@ IsOfLine _ = ⊥
 abbrev pub StaysAtLine : {T : Type 0} → Result T RunFault → Option Text → Option Text → Type 0
 StaysAtLine r held holds = (number : ℕ) (fault : LineFault) → IsErrOf r (Line number fault) → holds ≡ held
 
--- how the line with this number can end the script: by a fault of its own, by a write fault of its command, or for want
--- of memory, for its command or for more words than stand in place
+-- the words are a command that wants memory
+abbrev pub AreWanting : Fleet → List Word → Type 0
+AreWanting f words = (command : Command) × CommandAnswer words (Ok (Some command)) × WantsMemory f command
+
+-- how the line with this number can end the script: by a fault of its own, by a write fault where its command prints
+-- something, or for want of memory, for its command or for more words than stand in place
 abbrev pub EndsAt : ℕ → Fleet → Text → RunFault → Type 0
 EndsAt number f line (Line told fault) = (told ≡ number) × IsLineFault f line fault
 EndsAt number f line ScriptTooLong = ⊥
 EndsAt number f line Read = ⊥
-EndsAt number f line Write = (command : Command) × Says line command
+EndsAt number f line Write = (command : Command) × Says line command × PrintsSome f command
 EndsAt number f line NoMemory =
     (length line ≤ line_limit)
-    × ((words_in_place < length (words_of line)) ⊎ ((command : Command) × Says line command))
+    × ((words_in_place < length (words_of line))
+    ⊎ ((command : Command) × Says line command × WantsMemory f command))

@@ -108,10 +108,10 @@ abbrev pub TellAbsence : List PeerAnswer → Type 0
 TellAbsence [] = ⊥
 TellAbsence (answer ∷ answers) = TellsAbsence answer ⊎ TellAbsence answers
 
--- an unknown name, where this is so; or a write fault, or want of memory
+-- an unknown name, where this is so; or want of memory
 abbrev pub IsUnknownWhere : Type 0 → CommandFault → Type 0
 IsUnknownWhere P (Name fault) = (fault ≡ UnknownName) × P
-IsUnknownWhere P Write = Unit {0}
+IsUnknownWhere P Write = ⊥
 IsUnknownWhere P NoMemory = Unit {0}
 
 -- ---- operations

@@ -32,6 +32,11 @@ at_line number (Name fault) = Line number fault
 at_line number ends.Write = Write
 at_line number ends.NoMemory = NoMemory
 
+-- what ends a line that prints into a text: such a write is refused for want of memory alone
+abbrev pub in_text_fault : RunFault → RunFault
+in_text_fault Write = NoMemory
+in_text_fault fault = fault
+
 -- 3 for want of memory, otherwise 1
 abbrev pub status_of : RunFault → ℕ
 status_of NoMemory = 3

@@ -10,6 +10,6 @@ pub mod Printing
 pub mod Reports
 pub mod Scripts
 pub mod Stops
-pub mod Told
+pub mod Outcomes
 pub mod Unstable
 pub mod Words

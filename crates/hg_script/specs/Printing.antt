@@ -1,6 +1,6 @@
 -- What the commands and the lines of a script print.
 use Rattle.std.specs.Prelude.{ℕ, ◌≡◌, ◌⊎◌, ◌+◌, ◌↔◌, List, [], ◌∷◌, ◌++◌, codes, decimal, Bool, IsTrue}
-use Rattle.std.specs.Prelude.{Option, Some, None, true, false, if◌then◌else◌}
+use Rattle.std.specs.Prelude.{Contains, Option, Some, None, true, false, if◌then◌else◌}
 use Rattle.std.specs.List.{flat_map}
 use Rattle.std.specs.Str.Lines.{lines}
 use Rattle.hg_history.specs.declared.fault.Fault.{Fault}
@@ -94,17 +94,19 @@ PrintsLine number old line t text =
     ((words_of line ≡ []) × (text ≡ []))
     ⊎ ((command : Command) × Says line command × Prints number old command t text)
 
--- where lines are explained, a reason may stand behind the last one that is printed
+-- where lines are explained, a reason without a line end may stand behind the last one that is printed
 abbrev pub IsExplained : Bool → Text → Text → Type 0
 IsExplained false text explained = explained ≡ text
 IsExplained true text explained =
     (explained ≡ text)
-    ⊎ ((line : Text) × (reason : Text) × (text ≡ line_of line) × (explained ≡ line_of (line ++ reason)))
+    ⊎ ((line : Text) × (reason : Text) × (text ≡ line_of line) × ¬ (Contains reason 10)
+    × (explained ≡ line_of (line ++ reason)))
 
--- where lines are traced, one more may follow
+-- where lines are traced, one more may follow, a note without a line end
 abbrev pub IsTraced : Bool → Text → Text → Type 0
 IsTraced false text traced = traced ≡ text
-IsTraced true text traced = (traced ≡ text) ⊎ ((note : Text) × (traced ≡ text ++ line_of note))
+IsTraced true text traced =
+    (traced ≡ text) ⊎ ((note : Text) × ¬ (Contains note 10) × (traced ≡ text ++ line_of note))
 
 -- what a line prints is written so with these notes
 abbrev pub IsAnnotated : Notes → Text → Text → Type 0

@@ -1,11 +1,10 @@
 -- The report of a replica: a line for each changeset, by the definitions of what is so of it, under its node's pins.
-use Rattle.std.specs.Prelude.{ℕ, ◌≡◌, ◌+◌, ◌==◌, ◌↔◌, List, [], ◌∷◌, ◌++◌, map, codes, decimal, slice_get, length, Bool}
-use Rattle.std.specs.Prelude.{IsTrue, Some, if◌then◌else◌, not}
+use Rattle.std.specs.Prelude.{ℕ, ◌≡◌, ◌+◌, List, [], ◌∷◌, ◌++◌, map, codes, decimal, slice_get, length, Bool}
+use Rattle.std.specs.Prelude.{Some, if◌then◌else◌, not}
 use Rattle.std.specs.declared.cmp.Ordering.{Ordering}
 use Rattle.std.specs.Cmp.Lexicographic.{slice_cmp}
 use Rattle.std.specs.List.Sorted.{IsPermutation, IsSorted}
 use Rattle.std.specs.Ordering.{nat_cmp, ordering_then}
-use Rattle.hg_changeset.specs.declared.node.Node.{Node}
 use Rattle.hg_changeset.specs.Contents.{Contents}
 use Rattle.hg_changeset.specs.Changeset.{last_line, node_of}
 use Rattle.hg_phases.specs.declared.phase.Phase.{Phase}

@@ -27,7 +27,10 @@ use Rattle.hg_names.specs.Labels.{labelled}
 use Rattle.hg_names.specs.Names.{value_of, Binds}
 use Rattle.hg_script.specs.Words.{has_node, words_of}
 
--- ---- the names of a fleet
+-- ---- a fleet's world, and its names
+
+abbrev pub world_of : Fleet → Snapshot KeptValue
+world_of f = f.world
 
 abbrev pub places : Fleet → Meaning ℕ
 places f = value_of f.nodes
@@ -86,12 +89,12 @@ AreLabelled old labels (Marked ∷ answers) new = new ≡ old
 AreLabelled old labels (Refused refusal ∷ answers) new = new ≡ old
 
 -- the name stands for the message that was offered, if one was
-abbrev pub IsKept : BTreeMap (Vec ℕ Global) ℕ → Text → List PeerAnswer → BTreeMap (Vec ℕ Global) ℕ → Type 0
-IsKept old name [] new = new ≡ old
-IsKept old name (Accepted change ∷ answers) new = new ≡ old
-IsKept old name (Offered number ∷ answers) new = Binds old name number new
-IsKept old name (Marked ∷ answers) new = new ≡ old
-IsKept old name (Refused refusal ∷ answers) new = new ≡ old
+abbrev pub IsMessageNamed : BTreeMap (Vec ℕ Global) ℕ → Text → List PeerAnswer → BTreeMap (Vec ℕ Global) ℕ → Type 0
+IsMessageNamed old name [] new = new ≡ old
+IsMessageNamed old name (Accepted change ∷ answers) new = new ≡ old
+IsMessageNamed old name (Offered number ∷ answers) new = Binds old name number new
+IsMessageNamed old name (Marked ∷ answers) new = new ≡ old
+IsMessageNamed old name (Refused refusal ∷ answers) new = new ≡ old
 
 -- the names after a command: a node has the next place, the new labels of an operation name what it added, and a
 -- message that was offered has its number. The names of nodes and messages are new, and the labels were free to name
@@ -107,7 +110,7 @@ AreNamed old (Mark at marking) t new = (new.nodes ≡ old.nodes) × (new.labels 
     × (new.messages ≡ old.messages)
 AreNamed old (Offer scope at message labels) t new =
     (new.nodes ≡ old.nodes) × (new.labels ≡ old.labels) × (numbers old message.now ≡ None)
-    × IsKept old.messages message.now t.answers new.messages
+    × IsMessageNamed old.messages message.now t.answers new.messages
 AreNamed old (Take at message) t new = (new.nodes ≡ old.nodes) × (new.labels ≡ old.labels)
     × (new.messages ≡ old.messages)
 AreNamed old (Pull scope to from) t new = (new.nodes ≡ old.nodes) × (new.labels ≡ old.labels)
@@ -123,7 +126,7 @@ AreNamed old (Agree one other) t new = (new.nodes ≡ old.nodes) × (new.labels 
 pub record Does (old : Fleet) (command : Command) (t : Trace) (new : Fleet) : Type 0 where
   pub asked : AreEventsOf old.world (places old) (ids old) (numbers old) command t.answers t.events
   pub ran : Ran old.world t new.world
-  pub told : ArePrinted t.answers
+  pub printed : ArePrinted t.answers
   pub named : AreNamed old command t new
 
 -- a line of no words does nothing, and any other its command

@@ -1,5 +1,5 @@
 -- How a script is stopped before its last line is done, and what was written until then.
-use Rattle.std.specs.Prelude.{ℕ, ◌≡◌, ◌<◌, ◌+◌, List, [], ◌∷◌, ◌++◌, length, count_by, Option, IfSome}
+use Rattle.std.specs.Prelude.{ℕ, ◌≡◌, ◌≢◌, ◌⊎◌, ◌<◌, ◌+◌, List, [], ◌∷◌, ◌++◌, length, count_by, Option, IfSome}
 use Rattle.std.specs.Str.Lines.{lines}
 use Rattle.hg_script.specs.declared.fault.RunFault.{RunFault}
 use Rattle.hg_script.specs.declared.fault.RunFault.TheVariants.{Line, ScriptTooLong, Read, Write, NoMemory}
@@ -10,12 +10,25 @@ use Rattle.hg_script.specs.Endings.{EndsAt, IsOfLine}
 use Rattle.hg_script.specs.Events.{Trace}
 use Rattle.hg_script.specs.Limits.{script_limit}
 use Rattle.hg_script.specs.Outputs.{Printed}
-use Rattle.hg_script.specs.Printing.{WritesLines}
+use Rattle.hg_script.specs.Printing.{WritesLine, WritesLines, no_notes}
 use Rattle.hg_script.specs.Scripts.{IsNewFleet, IsScriptOf}
 use Rattle.hg_script.specs.Words.{has_node}
 
--- the lines before one were done, and this one ended the script; the first has this number. Where its own fault did,
--- what the writer holds grew by what was written of those before, and by nothing else
+-- the line with this number is done, and what is written of it isn't empty
+abbrev pub WritesSome : Notes → ℕ → Fleet → Text → Type 0
+WritesSome notes number f line =
+    (t : Trace) × (new : Fleet) × (written : Text) × WritesLine notes number f line t new written × (written ≢ [])
+
+-- how the line with this number can end the script that is run with these notes: as it ends any script, but by a write
+-- fault, where there are notes, only once it is done
+abbrev pub StopsAt : Notes → ℕ → Fleet → Text → RunFault → Type 0
+StopsAt notes number f line Write =
+    ((notes ≡ no_notes) × EndsAt number f line Write) ⊎ WritesSome notes number f line
+StopsAt notes number f line fault = EndsAt number f line fault
+
+-- the lines before one were done, and this one ended the script; the first has this number. What the writer holds grew
+-- by what was written of those before, and then by what this one wrote until it ended: by nothing, where its own fault
+-- ended it
 pub record StopsAmong (notes : Notes) (number : ℕ) (old : Fleet) (all : List Text) (fault : RunFault)
     (held holds : Option Text) : Type 0 where
   pub before : List Text
@@ -26,8 +39,10 @@ pub record StopsAmong (notes : Notes) (number : ℕ) (old : Fleet) (all : List T
   pub mid : Fleet
   pub output : Text
   pub did : WritesLines notes number old before trace mid output
-  pub ends : EndsAt (length before + number) mid line fault
-  pub printed : IsOfLine fault → Printed held output holds
+  pub ends : StopsAt notes (length before + number) mid line fault
+  pub more : Text
+  pub own : IsOfLine fault → more ≡ []
+  pub printed : Printed held (output ++ more) holds
 
 -- the script was stopped at a line by this fault, from a new fleet on, with a peer for each line whose first word is
 -- `node`; lines count from 1
@@ -36,7 +51,11 @@ pub record IsStoppedBy (notes : Notes) (text : Text) (fault : RunFault) (held ho
   pub is_new : IsNewFleet (count_by has_node (lines text)) start
   pub stops : StopsAmong notes 1 start (lines text) fault held holds
 
--- the script was stopped by this fault: at a line, or while it was read, and then nothing was written
+-- memory was wanting before the first line, and nothing was written
+abbrev pub IsUnbegun : RunFault → Option Text → Option Text → Type 0
+IsUnbegun fault held holds = (fault ≡ NoMemory) × (holds ≡ held)
+
+-- the script was stopped by this fault: at a line, or before the first one, and then nothing was written
 abbrev pub IsStop : Notes → Option Text → RunFault → Option Text → Option Text → Type 0
 IsStop notes known (Line number fault) held holds =
     (text : Text) × IsScriptOf known text × IsStoppedBy notes text (Line number fault) held holds
@@ -44,4 +63,5 @@ IsStop notes known ScriptTooLong held holds = IfSome known (λ bytes. script_lim
 IsStop notes known Read held holds = holds ≡ held
 IsStop notes known Write held holds =
     (text : Text) × IsScriptOf known text × IsStoppedBy notes text Write held holds
-IsStop notes known NoMemory held holds = Unit {0}
+IsStop notes known NoMemory held holds =
+    (holds ≡ held) ⊎ ((text : Text) × IsScriptOf known text × IsStoppedBy notes text NoMemory held holds)

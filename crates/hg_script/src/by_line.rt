@@ -7,15 +7,15 @@ ghost use Rattle.hg_script.specs.Endings.{EndsAt};
 ghost use Rattle.hg_script.specs.Events.{Trace};
 ghost use Rattle.hg_script.specs.Printing.{PrintsLine, no_notes};
 ghost use Rattle.hg_script.specs.Scripts.{DoesLine, IsScriptOf};
-ghost use Rattle.hg_script.specs.Stops.{IsStop, IsStoppedBy, StopsAmong};
+ghost use Rattle.hg_script.specs.Stops.{IsStop, IsStoppedBy, IsUnbegun, StopsAmong};
 ghost use Rattle.hg_script.specs.declared.fault.RunFault.TheVariants.{NoMemory};
 
+use crate::entry_buffers::EntryBuffers;
 use crate::fault::RunFault;
 use crate::fleet::Fleet;
 use crate::input::read_script;
 use crate::lines::count_nodes;
 use crate::script::run_line;
-use crate::spare::Spare;
 use crate::telling::in_text;
 use hg_expect::cut_line;
 use hg_node_set::IdKeys;
@@ -53,7 +53,8 @@ pub fn run_by_line<R: Read>(
 // What each line of this text prints.
 fn outputs_of(alloc: Global, keys: IdKeys, text: &[u8]) -> Result<Vec<Vec<u8>>, RunFault>
     ensures printed { IfOk result (λ outputs. PrintsEach text.now (texts outputs.items)) }
-    ensures stopped { IfErr result (λ fault. (fault ≡ NoMemory) ⊎ IsStoppedBy no_notes text.now fault None None) }
+    ensures stopped { IfErr result (λ fault.
+        IsUnbegun fault None None ⊎ IsStoppedBy no_notes text.now fault None None) }
 {
     let mut fleet = Fleet::new(alloc, keys, count_nodes(text))?;
     runs_compose::<Peer>();
@@ -68,33 +69,34 @@ fn outputs_in(alloc: Global, fleet: &mut Fleet, text: &[u8]) -> Result<Vec<Vec<u
         (fault ≡ NoMemory) ⊎ StopsAmong no_notes 1 fleet.old (lines text.now) fault None None) }
 {
     let mut outputs = Vec::new(alloc);
-    let mut spare = Spare::new(alloc);
+    let mut buffers = EntryBuffers::new(alloc);
     let mut rest = text;
     let mut number = 0usize;
     while !rest.is_empty() {
         let (line, after) = cut_line(rest);
         number += 1;
-        let output = output_of(alloc, fleet, number, line, &mut spare)?;
+        let output = output_of(alloc, fleet, number, line, &mut buffers)?;
         outputs.push(output)?;
         rest = after;
     }
     Ok(outputs)
 }
 
-// Does the line with this number, in the spare room where it makes a changeset, and gives what it prints.
+// Does the line with this number, with the buffers of an entry where it makes a changeset, and gives
+// what it prints.
 fn output_of(
     alloc: Global,
     fleet: &mut Fleet,
     number: usize,
     line: &[u8],
-    spare: &mut Spare,
+    buffers: &mut EntryBuffers,
 ) -> Result<Vec<u8>, RunFault>
     ensures done { IfOk result (λ output. (t : Trace) × DoesLine fleet.old line.now t fleet.new
         × PrintsLine number fleet.old line.now t output.items) }
-    ensures stopped { IfErr result (λ fault. (fault ≡ NoMemory) ⊎ EndsAt number fleet.old line.now fault) }
+    ensures stopped { IfErr result (EndsAt number fleet.old line.now) }
 {
     let mut output = Vec::new(alloc);
-    match run_line(alloc, fleet, number, line, spare, &mut output) {
+    match run_line(alloc, fleet, number, line, buffers, &mut output) {
         Ok(_) => Ok(output),
         Err(fault) => Err(in_text(fault)),
     }

@@ -18,32 +18,32 @@ use hg_world::{Answer, EventRefusal};
 
 /// Runs an event, and gives its answer where a script goes on from it.
 pub fn run_event(world: &mut Fleet, event: &PeerEvent) -> Result<PeerAnswer, CommandFault>
-    ensures told { IfOk result IsPrinted }
+    ensures printed { IfOk result IsPrinted }
     ensures happens { IfOk result (λ answer. (part : Option PartValue)
         × Happens peer_state peer_words world.old event.now answer part world.new) }
     ensures fault { IfErr result (IsUnknownWhere (IsNowhere world.old event.now)) }
     ensures unchanged { OnErr result (world.new ≡ world.old) }
 {
     let answer = world.run_one(event)?;
-    check_told(&answer)?;
+    check_printed(&answer)?;
     Ok(answer)
 }
 
 /// Lets a script go on from what a pull was answered.
 pub fn check_pulled(pulled: &Pulled) -> Result<(), CommandFault>
-    ensures told { OnOk result (ArePrinted (answers_of pulled.now)) }
+    ensures printed { OnOk result (ArePrinted (answers_of pulled.now)) }
     ensures fault { IfErr result (IsUnknownWhere (TellAbsence (answers_of pulled.now))) }
 {
-    check_told(&pulled.offered)?;
+    check_printed(&pulled.offered)?;
     match &pulled.taken {
-        Some(answer) => check_told(answer),
+        Some(answer) => check_printed(answer),
         None => Ok(()),
     }
 }
 
 // Lets a script go on from an answer: the event was done, or refused for a reason that is printed.
-fn check_told(answer: &PeerAnswer) -> Result<(), CommandFault>
-    ensures told { OnOk result (IsPrinted answer.now) }
+fn check_printed(answer: &PeerAnswer) -> Result<(), CommandFault>
+    ensures printed { OnOk result (IsPrinted answer.now) }
     ensures fault { IfErr result (IsUnknownWhere (TellsAbsence answer.now)) }
     ensures refused { OnErr result
         ((refusal : EventRefusal PeerRefusal Fault) × (answer.now ≡ Answer.Refused refusal)) }

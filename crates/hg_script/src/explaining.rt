@@ -1,29 +1,33 @@
 //! What a refusal is about, and why nodes don't agree, in words that are put behind what a line prints.
-ghost use Rattle.std.specs.Prelude.{OnOk, true};
+ghost use Rattle.std.specs.Prelude.{◌↔◌, Contains, IsTrue, OnOk, true};
 ghost use Rattle.hg_script.specs.Printing.{IsExplained};
 
 use crate::command::Command;
 use crate::disagreement::disagreement;
 use crate::fleet::Fleet;
+use crate::line_outcome::LineOutcome;
+use crate::operation::{Operation, Parents};
 use crate::reading::read_command;
-use crate::told::Told;
 use hg_changeset::{Changeset, ChangesetError, EntryError, Node};
 use hg_fleet::PeerAnswer;
 use hg_history::Fault;
 use hg_marker::{MarkerError, ReadError};
 use hg_message::{Message, OfferRefusal};
 use hg_peer::PeerRefusal;
+use hg_phases::Phase;
+use hg_replica::Replica;
 use hg_rewrite::{Cause, Refusal};
 use hg_view::PinRefusal;
 use hg_world::{Answer, EventRefusal};
 use std::alloc::{AllocError, Global};
 
-// What a fold or a relocation has to be.
-const NOT_LINEAR: &str =
-    ": a fold takes a line, each on the one before alone; nothing is relocated onto itself or what stands on it";
-
-// How many changesets a split makes and a fold takes.
-const COUNT: &str = ": a split makes 2 to 255, and a fold takes 2 or more";
+// A line of these words, and the fleet as it is behind it.
+#[derive(Clone, Copy)]
+struct Line<'a> {
+    alloc: Global,
+    fleet: &'a Fleet,
+    words: &'a [&'a [u8]],
+}
 
 /// Puts a reason behind the line with which the text ends, where lines are explained: what a refusal is about, or why
 /// nodes don't agree. The line has these words.
@@ -31,7 +35,7 @@ pub fn explain(
     alloc: Global,
     fleet: &Fleet,
     words: &[&[u8]],
-    told: &Told,
+    told: &LineOutcome,
     explains: bool,
     text: &mut Vec<u8>,
 ) -> Result<(), AllocError>
@@ -40,16 +44,24 @@ pub fn explain(
     if !explains {
         return Ok(());
     }
-    match reason_of(alloc, fleet, words, told)? {
+    let line = Line {
+        alloc,
+        fleet,
+        words,
+    };
+    match reason_of(line, told)? {
         Some(reason) => put_behind(&reason, text),
         None => Ok(()),
     }
 }
 
-// Puts the reason behind the last line of the text, if it ends with a line.
+// Puts the reason behind the last line of the text, if it ends with a line. A reason of several lines isn't put.
 fn put_behind(reason: &[u8], text: &mut Vec<u8>) -> Result<(), AllocError>
     ensures { OnOk result (IsExplained true text.old.items text.new.items) }
 {
+    if !is_in_line(reason) {
+        return Ok(());
+    }
     match text.pop() {
         Some(b'\n') => {
             text.extend_from_slice(reason)?;
@@ -63,29 +75,31 @@ fn put_behind(reason: &[u8], text: &mut Vec<u8>) -> Result<(), AllocError>
     }
 }
 
+/// Whether no line ends in the text.
+pub fn is_in_line(text: &[u8]) -> bool
+    ensures { IsTrue result ↔ ¬ (Contains text.now 10) }
+{
+    !text.contains(&b'\n')
+}
+
 // What the refusal of a line is about, where it was refused, and why nodes don't agree, where it asks that.
-fn reason_of(
-    alloc: Global,
-    fleet: &Fleet,
-    words: &[&[u8]],
-    told: &Told,
-) -> Result<Option<Vec<u8>>, AllocError> {
+fn reason_of(line: Line<'_>, told: &LineOutcome) -> Result<Option<Vec<u8>>, AllocError> {
     match told {
-        Told::Nothing => match read_command(words) {
-            Ok(Some(Command::Agree(one, other))) => disagreement(alloc, fleet, one, other),
+        LineOutcome::Nothing => match read_command(line.words) {
+            Ok(Some(Command::Agree(one, other))) => {
+                disagreement(line.alloc, line.fleet, one, other)
+            }
             _ => Ok(None),
         },
-        Told::Event { at: _, answer } => reason_in(alloc, fleet, answer, None),
-        Told::Taken {
+        LineOutcome::Event { at: _, answer } => reason_in(line, answer, None),
+        LineOutcome::Taken {
             at: _,
             message,
             answer,
-        } => reason_in(alloc, fleet, answer, fleet.message_at(*message)),
-        Told::Pulled { at: _, pulled } => match &pulled.taken {
-            Some(answer) => {
-                reason_in(alloc, fleet, answer, offered_bytes(fleet, &pulled.offered))
-            }
-            None => reason_in(alloc, fleet, &pulled.offered, None),
+        } => reason_in(line, answer, line.fleet.message_at(*message)),
+        LineOutcome::Pulled { at: _, pulled } => match &pulled.taken {
+            Some(answer) => reason_in(line, answer, offered_bytes(line.fleet, &pulled.offered)),
+            None => reason_in(line, &pulled.offered, None),
         },
     }
 }
@@ -100,15 +114,14 @@ fn offered_bytes<'a>(fleet: &'a Fleet, answer: &PeerAnswer) -> Option<&'a [u8]> 
 
 // The same of an answer, which was given to these bytes if it was one of taking a message.
 fn reason_in(
-    alloc: Global,
-    fleet: &Fleet,
+    line: Line<'_>,
     answer: &PeerAnswer,
     bytes: Option<&[u8]>,
 ) -> Result<Option<Vec<u8>>, AllocError> {
     match answer {
         Answer::Refused(refusal) => {
-            let mut reason = Vec::new(alloc);
-            push_reason(alloc, fleet, refusal, bytes, &mut reason)?;
+            let mut reason = Vec::new(line.alloc);
+            push_reason(line, refusal, bytes, &mut reason)?;
             Ok(Some(reason))
         }
         Answer::Accepted(_) | Answer::Offered(_) | Answer::Marked => Ok(None),
@@ -117,45 +130,186 @@ fn reason_in(
 
 // Appends what the refusal is about.
 fn push_reason(
-    alloc: Global,
-    fleet: &Fleet,
+    line: Line<'_>,
     refusal: &EventRefusal<PeerRefusal, Fault>,
     bytes: Option<&[u8]>,
     text: &mut Vec<u8>,
 ) -> Result<(), AllocError> {
     match refusal {
         EventRefusal::NoNode | EventRefusal::NoMessage => Ok(()),
-        EventRefusal::ByActor(refusal) => push_refusal(fleet, *refusal, text),
-        EventRefusal::ByState(fault) => push_fault(alloc, fleet, *fault, bytes, text),
+        EventRefusal::ByActor(refusal) => push_refusal(line, *refusal, text),
+        EventRefusal::ByState(fault) => push_fault(line.alloc, line.fleet, *fault, bytes, text),
     }
 }
 
 // The text of a message's fault says its place already.
-fn push_refusal(fleet: &Fleet, refusal: PeerRefusal, text: &mut Vec<u8>) -> Result<(), AllocError> {
+fn push_refusal(
+    line: Line<'_>,
+    refusal: PeerRefusal,
+    text: &mut Vec<u8>,
+) -> Result<(), AllocError> {
     match refusal {
-        PeerRefusal::Rewrite(refusal) => push_rewrite(fleet, refusal, text),
-        PeerRefusal::Offer(refusal) => push_offer(fleet, refusal, text),
-        PeerRefusal::View(refusal) => push_pin(fleet, refusal, text),
+        PeerRefusal::Rewrite(refusal) => push_rewrite(line, refusal, text),
+        PeerRefusal::Offer(refusal) => push_offer(line.fleet, refusal, text),
+        PeerRefusal::View(refusal) => push_pin(line.fleet, refusal, text),
         PeerRefusal::Message(_) | PeerRefusal::NoMemory => Ok(()),
     }
 }
 
-fn push_rewrite(fleet: &Fleet, refusal: Refusal, text: &mut Vec<u8>) -> Result<(), AllocError> {
+fn push_rewrite(line: Line<'_>, refusal: Refusal, text: &mut Vec<u8>) -> Result<(), AllocError> {
     match refusal {
         Refusal::Unknown(node)
         | Refusal::Hidden(node)
         | Refusal::Public(node)
         | Refusal::AlreadyObsolete(node)
-        | Refusal::Exists(node) => push_node(fleet, node, text),
-        Refusal::Fault(cause) => {
-            text.extend_from_slice(b": ")?;
-            text.extend_from_slice(cause_text(cause).as_bytes())
-        }
-        Refusal::NotLinear => text.extend_from_slice(NOT_LINEAR.as_bytes()),
-        Refusal::Count => text.extend_from_slice(COUNT.as_bytes()),
-        Refusal::Raise => text.extend_from_slice(b": no phase goes up"),
+        | Refusal::Exists(node) => push_node(line.fleet, node, text),
+        Refusal::Fault(cause) => push_parts(&[b": ", cause_text(cause).as_bytes()], text),
+        Refusal::NotLinear | Refusal::Count | Refusal::Raise => push_asked(line, text),
         Refusal::NoMemory => Ok(()),
     }
+}
+
+// Appends what the line's operation asked for that can't be had: what a fold takes, how many, new parents or a phase.
+fn push_asked(line: Line<'_>, text: &mut Vec<u8>) -> Result<(), AllocError> {
+    let (at, operation) = match read_command(line.words) {
+        Ok(Some(Command::Operation(at, operation))) => (at, operation),
+        _ => return Ok(()),
+    };
+    let replica = match line.fleet.kept_of(at) {
+        Some(kept) => kept.replica(),
+        None => return Ok(()),
+    };
+    match operation {
+        Operation::Split { new, .. } => push_count(line.alloc, SPLIT, new.len(), text),
+        Operation::Fold { old, .. } if old.len() < 2 => {
+            push_count(line.alloc, FOLD, old.len(), text)
+        }
+        Operation::Fold { old, .. } => push_gap(line.fleet, replica, old, text),
+        Operation::Relocate { old, parents, .. } => {
+            push_parent(line.fleet, replica, old, parents, text)
+        }
+        Operation::Advance { label, phase } => {
+            push_raise(line.fleet, replica, label, phase, text)
+        }
+        Operation::Commit { .. } | Operation::Amend { .. } | Operation::Prune { .. } => Ok(()),
+    }
+}
+
+// How many changesets a split makes.
+const SPLIT: &str = "a split makes 2 to 255";
+
+// How many changesets a fold takes.
+const FOLD: &str = "a fold takes 2 or more";
+
+// Appends how many there may be, and how many there are.
+fn push_count(
+    alloc: Global,
+    allowed: &str,
+    given: usize,
+    text: &mut Vec<u8>,
+) -> Result<(), AllocError> {
+    let reason = format!(in alloc; ": {allowed}, not {given}")?;
+    text.extend_from_slice(reason.as_bytes())
+}
+
+// Appends which is the first of a fold's changesets whose sole parent isn't the one before.
+fn push_gap(
+    fleet: &Fleet,
+    replica: &Replica,
+    labels: &[&[u8]],
+    text: &mut Vec<u8>,
+) -> Result<(), AllocError> {
+    for pair in labels.windows(2) {
+        if !stands_alone_on(fleet, replica, pair[1], pair[0]) {
+            let parts = [b": ", pair[1], b" does not stand on ", pair[0], b" alone"];
+            return push_parts(&parts, text);
+        }
+    }
+    Ok(())
+}
+
+// Whether the second changeset is the sole parent of the first.
+fn stands_alone_on(fleet: &Fleet, replica: &Replica, label: &[u8], parent: &[u8]) -> bool {
+    let (node, parent) = match (fleet.node_of(label), fleet.node_of(parent)) {
+        (Some(node), Some(parent)) => (node, parent),
+        _ => return false,
+    };
+    match replica.graph().changeset(node) {
+        Some(changeset) => changeset.parents() == (parent, Node::NULL),
+        None => false,
+    }
+}
+
+// Appends which new parent of a relocation is what would be relocated, or stands on it.
+fn push_parent(
+    fleet: &Fleet,
+    replica: &Replica,
+    old: &[u8],
+    parents: Parents<'_>,
+    text: &mut Vec<u8>,
+) -> Result<(), AllocError> {
+    let parent = match parents {
+        Parents::NoParent => return Ok(()),
+        Parents::One(p) => p,
+        Parents::Two(p, q) => {
+            if stands_on(fleet, replica, p, old)? {
+                p
+            } else {
+                q
+            }
+        }
+    };
+    if parent == old {
+        return push_parts(&[b": ", old, b" would stand on itself"], text);
+    }
+    push_parts(&[b": ", parent, b" stands on ", old], text)
+}
+
+// Whether the first changeset is the second one, or stands on it.
+fn stands_on(
+    fleet: &Fleet,
+    replica: &Replica,
+    label: &[u8],
+    ancestor: &[u8],
+) -> Result<bool, AllocError> {
+    match (fleet.node_of(label), fleet.node_of(ancestor)) {
+        (Some(node), Some(ancestor)) => replica.graph().is_ancestor(ancestor, node),
+        _ => Ok(false),
+    }
+}
+
+// Appends which phase the changeset has, and that it can't go up to the one that was asked for.
+fn push_raise(
+    fleet: &Fleet,
+    replica: &Replica,
+    label: &[u8],
+    asked: Phase,
+    text: &mut Vec<u8>,
+) -> Result<(), AllocError> {
+    let node = match fleet.node_of(label) {
+        Some(node) => node,
+        None => return Ok(()),
+    };
+    match replica.phase_of(node)? {
+        Some(present) => {
+            push_parts(&[b": ", label, b" is "], text)?;
+            let phases = [
+                present.word().as_bytes(),
+                b", and no phase goes up to ",
+                asked.word().as_bytes(),
+            ];
+            push_parts(&phases, text)
+        }
+        None => Ok(()),
+    }
+}
+
+// Appends the parts, one after the other.
+fn push_parts(parts: &[&[u8]], text: &mut Vec<u8>) -> Result<(), AllocError> {
+    for part in parts {
+        text.extend_from_slice(*part)?;
+    }
+    Ok(())
 }
 
 fn push_offer(fleet: &Fleet, refusal: OfferRefusal, text: &mut Vec<u8>) -> Result<(), AllocError> {
@@ -233,7 +387,7 @@ fn child_of(changesets: &[Changeset], parent: Node) -> Option<Node> {
 /// Appends a space and what a changeset is called: its label, or else the first 12 digits of its id.
 pub fn push_node(fleet: &Fleet, node: Node, text: &mut Vec<u8>) -> Result<(), AllocError> {
     text.extend_from_slice(b" ")?;
-    match fleet.label_of(node) {
+    match fleet.changeset_label(node) {
         Some(label) => text.extend_from_slice(label),
         None => text.extend_from_slice(&node.to_hex()[..12]),
     }

@@ -8,23 +8,23 @@ ghost use Rattle.hg_script.specs.Commands.{texts};
 ghost use Rattle.hg_script.specs.Endings.{AreLabelsFree, IsDecided, IsFaultOf, IsLeftBy, IsNodeFault, IsTakenFault};
 ghost use Rattle.hg_script.specs.Endings.{StaysAtLine, StaysAtName};
 ghost use Rattle.hg_names.specs.Labels.{labelled};
-ghost use Rattle.hg_script.specs.Outputs.{Printed};
+ghost use Rattle.hg_script.specs.Outputs.{Grows, Printed};
 ghost use Rattle.hg_script.specs.Printing.{agree_line};
-ghost use Rattle.hg_script.specs.Scripts.{AreLabelled, IsKept, IsNewFleet, bound_to, each_may_name, ids};
+ghost use Rattle.hg_script.specs.Scripts.{AreLabelled, IsMessageNamed, IsNewFleet, bound_to, each_may_name, ids};
 ghost use Rattle.hg_script.specs.Scripts.{may_name, message_named, node_named, node_names};
 ghost use Rattle.hg_script.specs.Scripts.{places};
-ghost use Rattle.hg_script.specs.Told.{IsAnswered, IsAskedOf, IsDone, IsEndedBy};
+ghost use Rattle.hg_script.specs.Outcomes.{IsAnswered, IsAskedOf, IsDone, IsEndedBy};
 
 use crate::command::Command;
 use crate::command_fault::CommandFault;
+use crate::entry_buffers::EntryBuffers;
 use crate::event::{check_pulled, run_event};
 use crate::fault::{LineFault, RunFault};
+use crate::line_outcome::{LineOutcome, print_refusals};
 use crate::marking::Marking;
 use crate::operation::{Names, Operation};
 use crate::output::{LineName, print_line};
 use crate::report::print_report;
-use crate::spare::Spare;
-use crate::told::{Told, print_told};
 use hg_changeset::{Changeset, Node};
 use hg_fleet::PeerAnswer;
 use hg_join::NoMemory;
@@ -137,7 +137,7 @@ impl Fleet {
 
     /// The label of the changeset, where one of the nodes holds it. Each changeset of a script is held where it was
     /// made, and has its label as its description.
-    pub(crate) fn label_of(&self, node: Node) -> Option<&[u8]> {
+    pub(crate) fn changeset_label(&self, node: Node) -> Option<&[u8]> {
         for place in 0..self.nodes.len() {
             match self.changeset_at(place, node) {
                 Some(changeset) => return Some(changeset.last_line()),
@@ -162,7 +162,7 @@ impl Fleet {
             alloc: self.alloc,
             labels: &self.labels,
         };
-        let op = operation.resolve(&names, &mut Spare::new(self.alloc))?;
+        let op = operation.resolve(&names, &mut EntryBuffers::new(self.alloc))?;
         let kept = self.kept(self.place(at)?)?;
         decided(self.alloc, kept, &op)
     }
@@ -174,17 +174,23 @@ impl Fleet {
         &mut self,
         number: usize,
         command: Command<'_>,
-        spare: &mut Spare,
+        buffers: &mut EntryBuffers,
         writer: &mut W,
-    ) -> Result<Told, RunFault>
-        ensures ok { IfOk result (λ told. IsDone number self.old command.entry told self.new
+    ) -> Result<LineOutcome, RunFault>
+        ensures ok { IfOk result (λ outcome. IsDone number self.old command.entry outcome self.new
             (W.contents writer.old) (W.contents writer.new)) }
         ensures err { IfErr result (λ fault. IsLeftBy number self.old command.entry fault self.new) }
         ensures unprinted { StaysAtLine result (W.contents writer.old) (W.contents writer.new) }
+        ensures grows { OnErr result (Grows (W.contents writer.old) (W.contents writer.new)) }
     {
-        match self.answer(command, spare, writer) {
-            Ok(told) => match print_told(self.alloc, writer, LineName::Number(number), &told) {
-                Ok(()) => Ok(told),
+        match self.answer(command, buffers, writer) {
+            Ok(outcome) => match print_refusals(
+                self.alloc,
+                writer,
+                LineName::Number(number),
+                &outcome,
+            ) {
+                Ok(()) => Ok(outcome),
                 Err(fault) => Err(fault.at_line(number)),
             },
             Err(fault) => Err(fault.at_line(number)),
@@ -196,17 +202,18 @@ impl Fleet {
     fn answer<W: Write>(
         &mut self,
         command: Command<'_>,
-        spare: &mut Spare,
+        buffers: &mut EntryBuffers,
         writer: &mut W,
-    ) -> Result<Told, CommandFault>
-        ensures ok { IfOk result (λ told. IsAnswered self.old command.entry told self.new
+    ) -> Result<LineOutcome, CommandFault>
+        ensures ok { IfOk result (λ outcome. IsAnswered self.old command.entry outcome self.new
             (W.contents writer.old) (W.contents writer.new)) }
         ensures err { IfErr result (λ fault. IsEndedBy self.old command.entry fault self.new) }
         ensures unprinted { StaysAtName result (W.contents writer.old) (W.contents writer.new) }
+        ensures grows { OnErr result (Grows (W.contents writer.old) (W.contents writer.new)) }
     {
         match command {
             Command::Node(at) => self.add_node(at),
-            Command::Operation(at, operation) => self.operate(at, operation, spare),
+            Command::Operation(at, operation) => self.operate(at, operation, buffers),
             Command::Mark(at, marking) => self.mark(at, marking),
             Command::Offer(scope, at, message, labels) => {
                 self.keep_offer(scope, at, message, labels)
@@ -219,8 +226,8 @@ impl Fleet {
     }
 
     // A new node has the next place.
-    fn add_node(&mut self, at: &[u8]) -> Result<Told, CommandFault>
-        ensures ok { IfOk result (λ told. IsAskedOf self.old (Command.Node at.entry) told self.new) }
+    fn add_node(&mut self, at: &[u8]) -> Result<LineOutcome, CommandFault>
+        ensures ok { IfOk result (λ outcome. IsAskedOf self.old (Command.Node at.entry) outcome self.new) }
         ensures err { IfErr result (λ fault. IsEndedBy self.old (Command.Node at.entry) fault self.new) }
     {
         let place = self.nodes.len();
@@ -228,7 +235,7 @@ impl Fleet {
             return Err(CommandFault::Name(LineFault::NameTaken));
         }
         bind(self.alloc, &mut self.nodes, at, place)?;
-        Ok(Told::Nothing)
+        Ok(LineOutcome::Nothing)
     }
 
     // The new labels are looked at before the operation is done, but only where it isn't refused.
@@ -236,27 +243,27 @@ impl Fleet {
         &mut self,
         at: &[u8],
         operation: Operation<'_>,
-        spare: &mut Spare,
-    ) -> Result<Told, CommandFault>
+        buffers: &mut EntryBuffers,
+    ) -> Result<LineOutcome, CommandFault>
         ensures ok { IfOk result
-            (λ told. IsAskedOf self.old (Command.Operation at.entry operation.entry) told self.new) }
+            (λ outcome. IsAskedOf self.old (Command.Operation at.entry operation.entry) outcome self.new) }
         ensures err { IfErr result
             (λ fault. IsEndedBy self.old (Command.Operation at.entry operation.entry) fault self.new) }
     {
+        let place = self.place(at)?;
         let names = Names {
             alloc: self.alloc,
             labels: &self.labels,
         };
-        let op = operation.resolve(&names, spare)?;
-        let place = self.place(at)?;
+        let op = operation.resolve(&names, buffers)?;
         let labels = operation.new_labels();
         let kept = self.kept(place)?;
         self.check_labels(kept, &op, labels)?;
         let mut event = Event::Local { at: place, op };
         let answer = run_event(&mut self.world, &event)?;
-        spare.keep(&mut event);
+        buffers.keep(&mut event);
         label(&mut self.labels, labels, &answer)?;
-        Ok(Told::Event { at: place, answer })
+        Ok(LineOutcome::Event { at: place, answer })
     }
 
     // Whether the labels may name what the operation is to make. Where they are new, whatever it makes; otherwise it is
@@ -283,19 +290,20 @@ impl Fleet {
     }
 
     // Marks what is a node's own.
-    fn mark(&mut self, at: &[u8], marking: Marking<'_>) -> Result<Told, CommandFault>
-        ensures ok { IfOk result (λ told. IsAskedOf self.old (Command.Mark at.entry marking.entry) told self.new) }
+    fn mark(&mut self, at: &[u8], marking: Marking<'_>) -> Result<LineOutcome, CommandFault>
+        ensures ok { IfOk result
+            (λ outcome. IsAskedOf self.old (Command.Mark at.entry marking.entry) outcome self.new) }
         ensures err { IfErr result (λ fault. IsEndedBy self.old (Command.Mark at.entry marking.entry) fault self.new) }
     {
+        let place = self.place(at)?;
         let names = Names {
             alloc: self.alloc,
             labels: &self.labels,
         };
         let mark = marking.resolve(&names)?;
-        let place = self.place(at)?;
         let event = Event::Mark { at: place, mark };
         let answer = run_event(&mut self.world, &event)?;
-        Ok(Told::Event { at: place, answer })
+        Ok(LineOutcome::Event { at: place, answer })
     }
 
     // Keeps what a node offers of a scope above the changesets of these labels under the name of a message. A refused
@@ -306,18 +314,18 @@ impl Fleet {
         at: &[u8],
         message: &[u8],
         labels: &[&[u8]],
-    ) -> Result<Told, CommandFault>
-        ensures ok { IfOk result (λ told.
-            IsAskedOf self.old (Command.Offer scope at.entry message.entry labels.entry) told self.new) }
+    ) -> Result<LineOutcome, CommandFault>
+        ensures ok { IfOk result (λ outcome.
+            IsAskedOf self.old (Command.Offer scope at.entry message.entry labels.entry) outcome self.new) }
         ensures err { IfErr result (λ fault.
             IsEndedBy self.old (Command.Offer scope at.entry message.entry labels.entry) fault self.new) }
     {
+        let place = self.place(at)?;
         let names = Names {
             alloc: self.alloc,
             labels: &self.labels,
         };
         let common = names.nodes(labels)?;
-        let place = self.place(at)?;
         if bound(&self.messages, message).is_some() {
             return Err(CommandFault::Name(LineFault::NameTaken));
         }
@@ -326,12 +334,13 @@ impl Fleet {
             ask: Ask { common, scope },
         };
         let answer = run_event(&mut self.world, &event)?;
-        keep(self.alloc, &mut self.messages, message, &answer)?;
-        Ok(Told::Event { at: place, answer })
+        name_message(self.alloc, &mut self.messages, message, &answer)?;
+        Ok(LineOutcome::Event { at: place, answer })
     }
 
-    fn take(&mut self, at: &[u8], message: &[u8]) -> Result<Told, CommandFault>
-        ensures ok { IfOk result (λ told. IsAskedOf self.old (Command.Take at.entry message.entry) told self.new) }
+    fn take(&mut self, at: &[u8], message: &[u8]) -> Result<LineOutcome, CommandFault>
+        ensures ok { IfOk result
+            (λ outcome. IsAskedOf self.old (Command.Take at.entry message.entry) outcome self.new) }
         ensures err { IfErr result (λ fault. IsEndedBy self.old (Command.Take at.entry message.entry) fault self.new) }
     {
         let at = self.place(at)?;
@@ -341,7 +350,7 @@ impl Fleet {
         };
         let event = Event::Take { at, message };
         let answer = run_event(&mut self.world, &event)?;
-        Ok(Told::Taken {
+        Ok(LineOutcome::Taken {
             at,
             message,
             answer,
@@ -349,8 +358,9 @@ impl Fleet {
     }
 
     // One node pulls from the other.
-    fn pull(&mut self, scope: Scope, to: &[u8], from: &[u8]) -> Result<Told, CommandFault>
-        ensures ok { IfOk result (λ told. IsAskedOf self.old (Command.Pull scope to.entry from.entry) told self.new) }
+    fn pull(&mut self, scope: Scope, to: &[u8], from: &[u8]) -> Result<LineOutcome, CommandFault>
+        ensures ok { IfOk result
+            (λ outcome. IsAskedOf self.old (Command.Pull scope to.entry from.entry) outcome self.new) }
         ensures err { IfErr result
             (λ fault. IsEndedBy self.old (Command.Pull scope to.entry from.entry) fault self.new) }
     {
@@ -359,40 +369,44 @@ impl Fleet {
         match self.world.pull(taker, giver, scope)? {
             Some(pulled) => {
                 check_pulled(&pulled)?;
-                Ok(Told::Pulled { at: taker, pulled })
+                Ok(LineOutcome::Pulled { at: taker, pulled })
             }
             None => Err(CommandFault::Name(LineFault::UnknownName)),
         }
     }
 
     // Whether two replicas are in equal states: each is below the other.
+    #[tactic(auto, using(crate::proofs::GrowLemmas::grows_stays))]
     fn agree<W: Write>(
         &self,
         one: &[u8],
         other: &[u8],
         writer: &mut W,
-    ) -> Result<Told, CommandFault>
-        ensures ok { IfOk result (λ told. IsAnswered self.now (Command.Agree one.entry other.entry) told self.now
+    ) -> Result<LineOutcome, CommandFault>
+        ensures ok { IfOk result (λ outcome. IsAnswered self.now (Command.Agree one.entry other.entry) outcome self.now
             (W.contents writer.old) (W.contents writer.new)) }
         ensures err { IfErr result (IsFaultOf self.now (Command.Agree one.entry other.entry)) }
         ensures unprinted { StaysAtName result (W.contents writer.old) (W.contents writer.new) }
+        ensures grows { OnErr result (Grows (W.contents writer.old) (W.contents writer.new)) }
     {
         let first = self.kept(self.place(one)?)?;
         let second = self.kept(self.place(other)?)?;
         let answer = first.replica().is_same_state(second.replica());
         print_agreement(self.alloc, one, other, answer, writer)?;
-        Ok(Told::Nothing)
+        Ok(LineOutcome::Nothing)
     }
 
-    fn report<W: Write>(&self, at: &[u8], writer: &mut W) -> Result<Told, CommandFault>
-        ensures ok { IfOk result (λ told. IsAnswered self.now (Command.Report at.entry) told self.now
+    #[tactic(auto, using(crate::proofs::GrowLemmas::grows_stays))]
+    fn report<W: Write>(&self, at: &[u8], writer: &mut W) -> Result<LineOutcome, CommandFault>
+        ensures ok { IfOk result (λ outcome. IsAnswered self.now (Command.Report at.entry) outcome self.now
             (W.contents writer.old) (W.contents writer.new)) }
         ensures err { IfErr result (IsFaultOf self.now (Command.Report at.entry)) }
         ensures unprinted { StaysAtName result (W.contents writer.old) (W.contents writer.new) }
+        ensures grows { OnErr result (Grows (W.contents writer.old) (W.contents writer.new)) }
     {
         let kept = self.kept(self.place(at)?)?;
         print_report(self.alloc, at, kept, writer)?;
-        Ok(Told::Nothing)
+        Ok(LineOutcome::Nothing)
     }
 
     // The place of the node with this name.
@@ -420,6 +434,7 @@ impl Fleet {
 }
 
 // Writes the line that says whether the replicas of these names agree.
+#[tactic(auto, using(crate::proofs::GrowLemmas::grows_stays))]
 fn print_agreement<W: Write>(
     alloc: Global,
     one: &[u8],
@@ -430,6 +445,7 @@ fn print_agreement<W: Write>(
     ensures printed { OnOk result
         (Printed (W.contents writer.old) (agree_line one.now other.now answer) (W.contents writer.new)) }
     ensures err { IfErr result (λ fault. (fault ≡ CommandFault.Write) ⊎ (fault ≡ CommandFault.NoMemory)) }
+    ensures grows { OnErr result (Grows (W.contents writer.old) (W.contents writer.new)) }
 {
     let answer: &[u8] = if answer { b": yes" } else { b": no" };
     let mut line = Vec::new(alloc);
@@ -524,13 +540,13 @@ fn bind_labels(names: &mut Labels, labels: &[&[u8]], nodes: &[Node]) -> Result<(
 }
 
 // Binds the name to the message that was offered, if one was.
-fn keep(
+fn name_message(
     alloc: Global,
     names: &mut BTreeMap<Vec<u8>, usize>,
     name: &[u8],
     answer: &PeerAnswer,
 ) -> Result<(), CommandFault>
-    ensures ok { OnOk result (IsKept names.old name.now (answer.now ∷ []) names.new) }
+    ensures ok { OnOk result (IsMessageNamed names.old name.now (answer.now ∷ []) names.new) }
     ensures err { IfErr result (λ fault. fault ≡ CommandFault.NoMemory) }
 {
     match answer {

@@ -1,5 +1,11 @@
-//! What helps with the fault of a line: the form of its command, the command that was meant, or what a word may be.
+//! What helps with the fault of a line: the form of its command, the command that was meant, what a word may be, or
+//! which nodes there are.
+use crate::blaming::Blamed;
+use crate::command::Command;
 use crate::fault::LineFault;
+use crate::fleet::Fleet;
+use crate::reading::read_command;
+use std::alloc::{AllocError, Global};
 
 /// What helps with the fault of a line.
 #[derive(Clone, Copy)]
@@ -8,8 +14,8 @@ pub enum Hint {
     Form(&'static str),
     /// What is put behind that word.
     Behind(&'static str),
-    /// The command that was meant, as it seems.
-    Nearest(&'static str),
+    /// The command that was meant, as its spelling seems to say.
+    Misspelt(&'static str),
 }
 
 // Each command, and how it is written.
@@ -74,8 +80,8 @@ fn behind(text: Option<&'static str>) -> Option<Hint> {
 fn command_hint(word: &[u8]) -> Option<Hint> {
     match meant(word) {
         Some(help) => Some(Hint::Behind(help)),
-        None => match nearest(word) {
-            Some(command) => Some(Hint::Nearest(command)),
+        None => match misspelt_command(word) {
+            Some(command) => Some(Hint::Misspelt(command)),
             None => None,
         },
     }
@@ -105,18 +111,18 @@ fn text_of(table: &[(&'static str, &'static str)], word: &[u8]) -> Option<&'stat
     None
 }
 
-// The first command that the word is near to.
-fn nearest(word: &[u8]) -> Option<&'static str> {
+// The first command of which the word is a misspelling.
+fn misspelt_command(word: &[u8]) -> Option<&'static str> {
     for form in &FORMS {
-        if is_near(word, form.0.as_bytes()) {
+        if is_misspelling(word, form.0.as_bytes()) {
             return Some(form.0);
         }
     }
     None
 }
 
-// Whether a letter was left out, added or mistaken, or two changed places.
-fn is_near(word: &[u8], command: &[u8]) -> bool {
+// Whether the word is the command with a letter left out, added or mistaken, or with two that changed places.
+fn is_misspelling(word: &[u8], command: &[u8]) -> bool {
     let front = common_front(word, command);
     let shorter = word.len().min(command.len());
     let longer = word.len().max(command.len());
@@ -175,4 +181,67 @@ fn phases_of(command: &[u8]) -> &'static str {
     } else {
         "public, draft or secret"
     }
+}
+
+// So many nodes are named before it is said how many more there are.
+const NAMED: usize = 3;
+
+/// What helps with a name that stands for nothing in a line of these words, where no line would have given it: which
+/// nodes there are, or how the command is written. It is put behind the name.
+pub fn help_at_unknown(
+    alloc: Global,
+    fleet: &Fleet,
+    words: &[&[u8]],
+    blamed: Blamed<'_>,
+) -> Result<Option<String>, AllocError> {
+    match blamed {
+        Blamed::Node(_) => Ok(Some(nodes_text(alloc, fleet)?)),
+        Blamed::Label(_) => match form_of_turned(fleet, words) {
+            Some(form) => Ok(Some(format!(in alloc; " ({form})")?)),
+            None => Ok(None),
+        },
+        Blamed::Message(_) | Blamed::Word(_) => Ok(None),
+    }
+}
+
+// Which nodes there are.
+fn nodes_text(alloc: Global, fleet: &Fleet) -> Result<String, AllocError> {
+    let names = fleet.node_names()?;
+    if names.is_empty() {
+        return String::from_str(alloc, " (no node is made yet)");
+    }
+    let mut text = String::from_str(alloc, " (nodes:")?;
+    for name in names.iter().take(NAMED) {
+        text.push(' ')?;
+        text.push_str(&printable(alloc, *name)?)?;
+    }
+    if names.len() > NAMED {
+        text.push_str(&format!(in alloc; " and {} more", names.len() - NAMED)?)?;
+    }
+    text.push(')')?;
+    Ok(text)
+}
+
+// How the operation of these words is written, if what it would make is there already: then old and new labels may
+// stand in each other's places.
+fn form_of_turned(fleet: &Fleet, words: &[&[u8]]) -> Option<&'static str> {
+    let operation = match read_command(words) {
+        Ok(Some(Command::Operation(_, operation))) => operation,
+        _ => return None,
+    };
+    for label in operation.new_labels() {
+        if fleet.node_of(*label).is_some() {
+            return text_of(&FORMS, *words.first()?);
+        }
+    }
+    None
+}
+
+/// The word, where bytes that aren't printed, quotes and backslashes are escaped.
+pub fn printable(alloc: Global, word: &[u8]) -> Result<String, AllocError> {
+    let mut text = String::new(alloc);
+    for byte in word.escape_ascii() {
+        text.push(char::from(byte))?;
+    }
+    Ok(text)
 }

@@ -19,9 +19,9 @@ const CHUNK: usize = 8192;
 /// Reads all that a reader has left, as [`run_script`](crate::run_script) does before it does a line. Whether the bytes
 /// are lines of a script isn't looked at.
 ///
-/// Ends with [`RunFault::ScriptTooLong`] where that is more than [`SCRIPT_LIMIT`] bytes, with [`RunFault::Read`] where
-/// a read fails, an interrupted one too, which isn't tried again, and with [`RunFault::NoMemory`] where memory is
-/// refused; whichever comes first, and with no other fault. What was read until then is lost.
+/// Ends with [`RunFault::ScriptTooLong`] where that is more than 1,048,576 bytes, with [`RunFault::Read`] where a read
+/// fails, an interrupted one too, which isn't tried again, and with [`RunFault::NoMemory`] where memory is refused;
+/// whichever comes first, and with no other fault. What was read until then is lost.
 ///
 /// At most 1,048,577 reads are made, one more than a script may have bytes.
 pub fn read_script<R: Read>(alloc: Global, reader: &mut R) -> Result<Vec<u8>, RunFault>

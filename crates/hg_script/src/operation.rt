@@ -6,8 +6,8 @@ ghost use Rattle.hg_script.specs.Events.{AreIds, AreParentIds, IsOperation, IsUn
 ghost use Rattle.hg_names.specs.Labels.{labelled};
 
 use crate::command_fault::CommandFault;
+use crate::entry_buffers::{EntryBuffers, USER};
 use crate::fault::LineFault;
-use crate::spare::{Spare, USER};
 use hg_changeset::{Entry, Node};
 use hg_names::Labels;
 use hg_phases::Phase;
@@ -72,10 +72,10 @@ impl<'a> Operation<'a> {
         }
     }
 
-    /// What the operation asks of a replica, with the entry of a new changeset in the spare room. All its labels but
+    /// What the operation asks of a replica, with the entry of a new changeset in these buffers. All its labels but
     /// the new ones have to be bound.
     #[inline(always)]
-    pub fn resolve(self, names: &Names, spare: &mut Spare) -> Result<Op, CommandFault>
+    pub fn resolve(self, names: &Names, buffers: &mut EntryBuffers) -> Result<Op, CommandFault>
         ensures ok { IfOk result (IsOperation (labelled names.now.labels.now) self.entry) }
         ensures err { IfErr result (IsUnresolved names.now (old_labels self.entry)) }
     {
@@ -84,12 +84,12 @@ impl<'a> Operation<'a> {
                 new,
                 is_secret,
                 parents,
-            } => names.commit(new, is_secret, parents, spare),
-            Operation::Amend { old, new } => names.amend(old, new, spare),
-            Operation::Split { old, new } => names.split(old, new, spare),
-            Operation::Fold { new, old } => names.fold(new, old, spare),
+            } => names.commit(new, is_secret, parents, buffers),
+            Operation::Amend { old, new } => names.amend(old, new, buffers),
+            Operation::Split { old, new } => names.split(old, new, buffers),
+            Operation::Fold { new, old } => names.fold(new, old, buffers),
             Operation::Prune { old } => names.prune(old),
-            Operation::Relocate { old, new, parents } => names.relocate(old, new, parents, spare),
+            Operation::Relocate { old, new, parents } => names.relocate(old, new, parents, buffers),
             Operation::Advance { label, phase } => names.advance(label, phase),
         }
     }
@@ -133,7 +133,7 @@ impl Names<'_> {
         new: &[u8],
         secret: bool,
         parents: Parents<'_>,
-        spare: &mut Spare,
+        buffers: &mut EntryBuffers,
     ) -> Result<Op, CommandFault>
         ensures ok { IfOk result (IsOperation (labelled self.now.labels.now)
             (Operation.Commit new.entry secret parents.entry)) }
@@ -143,39 +143,49 @@ impl Names<'_> {
         Ok(Op::Commit {
             p,
             q,
-            entry: spare.entry(new)?,
+            entry: buffers.entry(new)?,
             secret,
         })
     }
 
     #[inline(always)]
-    fn amend(&self, old: &[u8], new: &[u8], spare: &mut Spare) -> Result<Op, CommandFault>
+    fn amend(&self, old: &[u8], new: &[u8], buffers: &mut EntryBuffers) -> Result<Op, CommandFault>
         ensures ok { IfOk result (IsOperation (labelled self.now.labels.now) (Operation.Amend old.entry new.entry)) }
         ensures err { IfErr result (IsUnresolved self.now (old.now ∷ [])) }
     {
         Ok(Op::Amend {
             node: self.node(old)?,
-            entry: spare.entry(new)?,
+            entry: buffers.entry(new)?,
         })
     }
 
-    fn split(&self, old: &[u8], new: &[&[u8]], spare: &mut Spare) -> Result<Op, CommandFault>
+    fn split(
+        &self,
+        old: &[u8],
+        new: &[&[u8]],
+        buffers: &mut EntryBuffers,
+    ) -> Result<Op, CommandFault>
         ensures ok { IfOk result (IsOperation (labelled self.now.labels.now) (Operation.Split old.entry new.entry)) }
         ensures err { IfErr result (IsUnresolved self.now (old.now ∷ [])) }
     {
         Ok(Op::Split {
             node: self.node(old)?,
-            entries: self.entries(new, spare)?,
+            entries: self.entries(new, buffers)?,
         })
     }
 
-    fn fold(&self, new: &[u8], old: &[&[u8]], spare: &mut Spare) -> Result<Op, CommandFault>
+    fn fold(
+        &self,
+        new: &[u8],
+        old: &[&[u8]],
+        buffers: &mut EntryBuffers,
+    ) -> Result<Op, CommandFault>
         ensures ok { IfOk result (IsOperation (labelled self.now.labels.now) (Operation.Fold new.entry old.entry)) }
         ensures err { IfErr result (IsUnresolved self.now (texts old.now)) }
     {
         Ok(Op::Fold {
             nodes: self.nodes(old)?,
-            entry: spare.entry(new)?,
+            entry: buffers.entry(new)?,
         })
     }
 
@@ -197,7 +207,7 @@ impl Names<'_> {
         old: &[u8],
         new: &[u8],
         parents: Parents<'_>,
-        spare: &mut Spare,
+        buffers: &mut EntryBuffers,
     ) -> Result<Op, CommandFault>
         ensures ok { IfOk result (IsOperation (labelled self.now.labels.now)
             (Operation.Relocate old.entry new.entry parents.entry)) }
@@ -209,7 +219,7 @@ impl Names<'_> {
             node,
             p,
             q,
-            entry: spare.entry(new)?,
+            entry: buffers.entry(new)?,
         })
     }
 
@@ -235,12 +245,16 @@ impl Names<'_> {
         Ok(nodes)
     }
 
-    fn entries(&self, labels: &[&[u8]], spare: &mut Spare) -> Result<Vec<Entry>, AllocError>
+    fn entries(
+        &self,
+        labels: &[&[u8]],
+        buffers: &mut EntryBuffers,
+    ) -> Result<Vec<Entry>, AllocError>
         ensures { IfOk result (λ entries. entries.items ≡ map (λ w. entry_of w.now) labels.now) }
     {
         let mut entries = Vec::new(self.alloc);
         for label in labels {
-            entries.push(spare.entry(*label)?)?;
+            entries.push(buffers.entry(*label)?)?;
         }
         Ok(entries)
     }

@@ -1,17 +1,18 @@
-//! Which line of a script gave a name that a later line is at fault with.
+//! Which line of a script gave a name that a later line is at fault with, and what helps where none did.
 use crate::blaming::{Blamed, word_at_fault};
 use crate::command::Command;
 use crate::command_fault::CommandFault;
 use crate::fault::{LineFault, RunFault};
 use crate::fleet::Fleet;
+use crate::hint::help_at_unknown;
 use crate::lines::words_of;
 use crate::reading::read_command;
 use hg_expect::cut_line;
 use std::alloc::{AllocError, Global};
 
 /// What is told of the line that would have made what is unknown at a fault, but was refused, or that made what is
-/// taken. The script is this text, and these of its lines were refused. The fleet is as it was before the line at
-/// fault.
+/// taken; what helps with an unknown name that no such line would have made. The script is this text, and these of its
+/// lines were refused. The fleet is as it was before the line at fault.
 pub fn origin_of(
     alloc: Global,
     fleet: &Fleet,
@@ -28,26 +29,35 @@ pub fn origin_of(
         Some(blamed) => blamed,
         None => return Ok(None),
     };
-    let found = line_giving(alloc, text, number, refused, fault, blamed)?;
-    Ok(told(alloc, found, fault)?)
+    match line_giving(alloc, text, number, refused, fault, blamed)? {
+        Some(line) => Ok(Some(told(alloc, line, fault)?)),
+        None => Ok(help_without_line(alloc, fleet, words.as_slice(), fault, blamed)?),
+    }
 }
 
-// What is told of the line with this number, if one was found.
-fn told(
+// What helps with a fault where no line before gave the name that it is about. If that is taken, its own line gives it
+// twice.
+fn help_without_line(
     alloc: Global,
-    found: Option<usize>,
+    fleet: &Fleet,
+    words: &[&[u8]],
     fault: LineFault,
+    blamed: Blamed<'_>,
 ) -> Result<Option<String>, AllocError> {
-    let line = match found {
-        Some(line) => line,
-        None => return Ok(None),
-    };
+    match fault {
+        LineFault::UnknownName => help_at_unknown(alloc, fleet, words, blamed),
+        LineFault::NameTaken => Ok(Some(String::from_str(alloc, " (twice in this line)")?)),
+        _ => Ok(None),
+    }
+}
+
+// What is told of the line with this number.
+fn told(alloc: Global, line: usize, fault: LineFault) -> Result<String, AllocError> {
     match fault {
         LineFault::UnknownName => {
-            let text = format!(in alloc; " (line {line}, which would have made it, was refused)")?;
-            Ok(Some(text))
+            format!(in alloc; " (line {line}, which would have made it, was refused)")
         }
-        _ => Ok(Some(format!(in alloc; " (made in line {line})")?)),
+        _ => format!(in alloc; " (made in line {line})"),
     }
 }
 

@@ -1,8 +1,8 @@
 //! Printing: one write for each line, its LF included.
-ghost use Rattle.std.specs.Prelude.{◌≡◌, ◌⊎◌, [], ◌∷◌, ◌++◌, IfErr, IfSome, OnOk, Some, codes, true, false};
+ghost use Rattle.std.specs.Prelude.{◌≡◌, ◌⊎◌, [], ◌∷◌, ◌++◌, IfErr, IfSome, OnErr, OnOk, Some, codes, true, false};
 ghost use Rattle.hg_changeset.specs.declared.node.Node.{Node};
 ghost use Rattle.hg_view.specs.declared.refusal.PinRefusal.{PinRefusal};
-ghost use Rattle.hg_script.specs.Outputs.{Printed};
+ghost use Rattle.hg_script.specs.Outputs.{Grows, Printed};
 ghost use Rattle.hg_script.specs.Printing.{agree_line, name_of, refusal_line, refused_line, refusing_word};
 ghost use Rattle.hg_script.specs.Reports.{heading, line_of, row_line, totals};
 
@@ -14,7 +14,7 @@ use hg_world::EventRefusal;
 use std::alloc::Global;
 use std::fmt;
 use std::fmt::Display;
-use std::io::Write;
+use std::io::{ErrorKind, Write};
 
 /// How a refused line is called where its refusal is told.
 #[derive(Clone, Copy)]
@@ -63,22 +63,47 @@ pub fn printed_lines_are_those_of_the_format()
     ensures totals { totals 4 1 ≡ codes "4 changesets 1 markers" ++ 10 ∷ [] }
 {}
 
+/// Writes the bytes, in as many writes as the writer wants; an interrupted one is tried again. Where a write fails,
+/// some of them may have been written before.
+pub fn write_bytes<W: Write>(bytes: &[u8], writer: &mut W) -> Result<(), CommandFault>
+    ensures written { OnOk result (Printed (W.contents writer.old) bytes.now (W.contents writer.new)) }
+    ensures err { IfErr result (λ fault. fault ≡ CommandFault.Write) }
+    ensures grows { OnErr result (Grows (W.contents writer.old) (W.contents writer.new)) }
+{
+    let mut rest = bytes;
+    for _ in 0..u64::MAX {
+        if rest.is_empty() {
+            return Ok(());
+        }
+        match writer.write(rest) {
+            Ok(0) => return Err(CommandFault::Write),
+            Ok(count) => rest = &rest[count..],
+            Err(error) => {
+                if error.kind() != ErrorKind::Interrupted {
+                    return Err(CommandFault::Write);
+                }
+            }
+        }
+    }
+    Err(CommandFault::Write)
+}
+
 /// Writes a line, and empties it for the next one.
+#[tactic(auto, using(crate::proofs::GrowLemmas::grows_stays))]
 pub fn print_line<W: Write>(writer: &mut W, line: &mut Vec<u8>) -> Result<(), CommandFault>
     ensures printed { OnOk result (Printed (W.contents writer.old) (line_of line.old.items) (W.contents writer.new)) }
     ensures emptied { OnOk result (line.new.items ≡ []) }
     ensures err { IfErr result (λ fault. (fault ≡ CommandFault.Write) ⊎ (fault ≡ CommandFault.NoMemory)) }
+    ensures grows { OnErr result (Grows (W.contents writer.old) (W.contents writer.new)) }
 {
     line.push(b'\n')?;
-    match writer.write_all(line) {
-        Ok(()) => {}
-        Err(_) => return Err(CommandFault::Write),
-    }
+    write_bytes(line, writer)?;
     line.clear();
     Ok(())
 }
 
 /// Writes the line that says which refusal the line that is called so met, if the refusal has a number.
+#[tactic(auto, using(crate::proofs::GrowLemmas::grows_stays))]
 pub fn print_refusal<W: Write, D: Display>(
     alloc: Global,
     writer: &mut W,
@@ -90,6 +115,7 @@ pub fn print_refusal<W: Write, D: Display>(
     ensures printed { OnOk result (IfSome (D.output name.now) (λ name.
         Printed (W.contents writer.old) (refusal_line line word.now number name) (W.contents writer.new))) }
     ensures err { IfErr result (λ fault. (fault ≡ CommandFault.Write) ⊎ (fault ≡ CommandFault.NoMemory)) }
+    ensures grows { OnErr result (Grows (W.contents writer.old) (W.contents writer.new)) }
 {
     let number = match number {
         Some(number) => number,
@@ -110,6 +136,7 @@ pub fn print_refused<W: Write>(
     ensures printed { OnOk result
         (Printed (W.contents writer.old) (refused_line line refusal.now) (W.contents writer.new)) }
     ensures err { IfErr result (λ fault. (fault ≡ CommandFault.Write) ⊎ (fault ≡ CommandFault.NoMemory)) }
+    ensures grows { OnErr result (Grows (W.contents writer.old) (W.contents writer.new)) }
 {
     match refusal {
         EventRefusal::ByActor(refusal) => {

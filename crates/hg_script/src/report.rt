@@ -1,10 +1,10 @@
 //! The report of a replica: its changesets, what each is, and how many there are.
-ghost use Rattle.std.specs.Prelude.{◌≡◌, ◌≤◌, ◌<◌, ◌↔◌, ◌⊎◌, ◌++◌, [], List, IfOk, IfErr, OnOk, IsTrue, All};
+ghost use Rattle.std.specs.Prelude.{◌≡◌, ◌≤◌, ◌<◌, ◌↔◌, ◌⊎◌, ◌++◌, [], List, IfOk, IfErr, OnErr, OnOk, IsTrue, All};
 ghost use Rattle.std.specs.Prelude.{Contains, codes, length};
 ghost use Rattle.hg_phases.specs.State.{changesets};
 ghost use Rattle.hg_phases.specs.Words.{phase_word};
 ghost use Rattle.hg_script.specs.Commands.{Text};
-ghost use Rattle.hg_script.specs.Outputs.{Printed};
+ghost use Rattle.hg_script.specs.Outputs.{Grows, Printed};
 ghost use Rattle.hg_script.specs.Reports.{AreRowLines, AreRows, IsReport, IsRowLine};
 ghost use Rattle.hg_script.specs.Reports.{RowValue, heading, row_values, rows_from, text_where, totals};
 ghost use Rattle.hg_script.specs.Reports.{with_words};
@@ -79,6 +79,7 @@ pub fn print_report<W: Write>(
     ensures printed { OnOk result ((text : Text) × IsReport name.now kept.now text
         × Printed (W.contents writer.old) text (W.contents writer.new)) }
     ensures err { IfErr result (λ fault. (fault ≡ CommandFault.Write) ⊎ (fault ≡ CommandFault.NoMemory)) }
+    ensures grows { OnErr result (Grows (W.contents writer.old) (W.contents writer.new)) }
 {
     let mut line = Vec::new(alloc);
     print_heading(name, &mut line, writer)?;
@@ -88,6 +89,7 @@ pub fn print_report<W: Write>(
 }
 
 // Prints the line of the replica's name, by means of the empty line that is lent.
+#[tactic(auto, using(crate::proofs::GrowLemmas::grows_stays))]
 fn print_heading<W: Write>(
     name: &[u8],
     line: &mut Vec<u8>,
@@ -97,6 +99,7 @@ fn print_heading<W: Write>(
     ensures printed { OnOk result (Printed (W.contents writer.old) (heading name.now) (W.contents writer.new)) }
     ensures emptied { OnOk result (line.new.items ≡ []) }
     ensures err { IfErr result (λ fault. (fault ≡ CommandFault.Write) ⊎ (fault ≡ CommandFault.NoMemory)) }
+    ensures grows { OnErr result (Grows (W.contents writer.old) (W.contents writer.new)) }
 {
     line.extend_from_slice(b"report ")?;
     line.extend_from_slice(name)?;
@@ -104,6 +107,7 @@ fn print_heading<W: Write>(
 }
 
 // Prints how many changesets and markers the replica holds, by means of the empty line that is lent.
+#[tactic(auto, using(crate::proofs::GrowLemmas::grows_stays))]
 fn print_totals<W: Write>(
     alloc: Global,
     replica: &Replica,
@@ -114,6 +118,7 @@ fn print_totals<W: Write>(
     ensures printed { OnOk result (Printed (W.contents writer.old)
         (totals (length (changesets replica.now.history)) (length replica.now.markers)) (W.contents writer.new)) }
     ensures err { IfErr result (λ fault. (fault ≡ CommandFault.Write) ⊎ (fault ≡ CommandFault.NoMemory)) }
+    ensures grows { OnErr result (Grows (W.contents writer.old) (W.contents writer.new)) }
 {
     let changesets = replica.graph().len();
     let markers = replica.store().len();
@@ -123,6 +128,7 @@ fn print_totals<W: Write>(
 }
 
 // Prints a line for each changeset of the replica, by means of the empty line that is lent.
+#[tactic(auto, using(crate::proofs::GrowLemmas::grows_stays))]
 fn print_changesets<W: Write>(
     alloc: Global,
     kept: &Kept,
@@ -134,6 +140,7 @@ fn print_changesets<W: Write>(
         × AreRowLines kept.now rows text × Printed (W.contents writer.old) text (W.contents writer.new)) }
     ensures emptied { OnOk result (line.new.items ≡ []) }
     ensures err { IfErr result (λ fault. (fault ≡ CommandFault.Write) ⊎ (fault ≡ CommandFault.NoMemory)) }
+    ensures grows { OnErr result (Grows (W.contents writer.old) (W.contents writer.new)) }
 {
     let rows = rows(alloc, kept.replica())?;
     print_rows(kept, &rows, line, writer)?;
@@ -153,6 +160,7 @@ fn print_rows<W: Write>(
         × Printed (W.contents writer.old) text (W.contents writer.new)) }
     ensures emptied { OnOk result (line.new.items ≡ []) }
     ensures err { IfErr result (λ fault. (fault ≡ CommandFault.Write) ⊎ (fault ≡ CommandFault.NoMemory)) }
+    ensures grows { OnErr result (Grows (W.contents writer.old) (W.contents writer.new)) }
 {
     for (label, place) in rows {
         print_row(kept, *label, *place, line, writer)?;
@@ -161,6 +169,7 @@ fn print_rows<W: Write>(
 }
 
 // Prints the line of the changeset with this label at this place, by means of the empty line that is lent.
+#[tactic(auto, using(crate::proofs::GrowLemmas::grows_stays))]
 fn print_row<W: Write>(
     kept: &Kept,
     label: &[u8],
@@ -174,6 +183,7 @@ fn print_row<W: Write>(
         × Printed (W.contents writer.old) text (W.contents writer.new)) }
     ensures emptied { OnOk result (line.new.items ≡ []) }
     ensures err { IfErr result (λ fault. (fault ≡ CommandFault.Write) ⊎ (fault ≡ CommandFault.NoMemory)) }
+    ensures grows { OnErr result (Grows (W.contents writer.old) (W.contents writer.new)) }
 {
     let replica = kept.replica();
     let node = replica.graph().node_at(place).unwrap();

@@ -1,24 +1,24 @@
 //! A script from its first line to its last.
-ghost use Rattle.std.specs.Prelude.{◌≡◌, ◌≤◌, ◌+◌, ◌⊎◌, IfOk, IfErr, OnOk};
+ghost use Rattle.std.specs.Prelude.{◌≡◌, ◌≤◌, ◌+◌, ◌⊎◌, IfOk, IfErr, OnErr, OnOk};
 ghost use Rattle.std.specs.Str.Lines.{lines};
 ghost use Rattle.hg_view.specs.Kept.{KeptValue};
 ghost use Rattle.hg_world.specs.Runs.{Snapshot};
 ghost use Rattle.hg_script.specs.Commands.{Text};
 ghost use Rattle.hg_script.specs.Events.{Trace};
 ghost use Rattle.hg_script.specs.Endings.{EndsAt, StaysAtLine};
-ghost use Rattle.hg_script.specs.Outputs.{Printed};
+ghost use Rattle.hg_script.specs.Outputs.{Grows, Printed};
 ghost use Rattle.hg_script.specs.Printing.{PrintsLine, WritesLines, WritesRun, WritesScript, no_notes};
-ghost use Rattle.hg_script.specs.Scripts.{DoesLine, IsLeftFleet, IsLeftWorld, IsRunTo};
-ghost use Rattle.hg_script.specs.Stops.{IsStop, IsStoppedBy, StopsAmong};
-ghost use Rattle.hg_script.specs.Told.{told_answers};
+ghost use Rattle.hg_script.specs.Scripts.{DoesLine, IsLeftFleet, IsLeftWorld, IsRunTo, world_of};
+ghost use Rattle.hg_script.specs.Stops.{IsStop, IsStoppedBy, IsUnbegun, StopsAmong};
+ghost use Rattle.hg_script.specs.Outcomes.{outcome_answers};
 
+use crate::entry_buffers::EntryBuffers;
 use crate::fault::{LineFault, RunFault};
 use crate::fleet::Fleet;
 use crate::input::read_script;
+use crate::line_outcome::LineOutcome;
 use crate::lines::{count_nodes, is_short, words_of};
 use crate::reading::read_command;
-use crate::spare::Spare;
-use crate::told::Told;
 use hg_expect::cut_line;
 use hg_node_set::IdKeys;
 use hg_peer::Peer;
@@ -58,7 +58,8 @@ pub fn run_fleet<R: Read, W: Write>(
 ) -> Result<Fleet, RunFault>
     ensures ran { IfOk result (IsLeftFleet (R.remaining reader.old)) }
     ensures printed { IfOk result (λ fleet.
-        WritesScript no_notes (R.remaining reader.old) fleet.world (W.contents writer.old) (W.contents writer.new)) }
+        WritesScript no_notes (R.remaining reader.old) (world_of fleet)
+        (W.contents writer.old) (W.contents writer.new)) }
     ensures stopped { IfErr result (λ fault.
         IsStop no_notes (R.remaining reader.old) fault (W.contents writer.old) (W.contents writer.new)) }
 {
@@ -74,8 +75,8 @@ fn run_text<W: Write>(
 ) -> Result<Fleet, RunFault>
     ensures ran { IfOk result (IsRunTo text.now) }
     ensures printed { IfOk result (λ fleet.
-        WritesRun no_notes text.now fleet.world (W.contents writer.old) (W.contents writer.new)) }
-    ensures stopped { IfErr result (λ fault. (fault ≡ RunFault.NoMemory)
+        WritesRun no_notes text.now (world_of fleet) (W.contents writer.old) (W.contents writer.new)) }
+    ensures stopped { IfErr result (λ fault. IsUnbegun fault (W.contents writer.old) (W.contents writer.new)
         ⊎ IsStoppedBy no_notes text.now fault (W.contents writer.old) (W.contents writer.new)) }
 {
     let mut fleet = Fleet::new(alloc, keys, count_nodes(text))?;
@@ -96,32 +97,35 @@ fn run_lines<W: Write>(
     ensures stopped { IfErr result (λ fault.
         StopsAmong no_notes 1 fleet.old (lines text.now) fault (W.contents writer.old) (W.contents writer.new)) }
 {
-    let mut spare = Spare::new(alloc);
+    let mut buffers = EntryBuffers::new(alloc);
     let mut rest = text;
     let mut number = 0usize;
     while !rest.is_empty() {
         let (line, after) = cut_line(rest);
         number += 1;
-        run_line(alloc, fleet, number, line, &mut spare, writer)?;
+        run_line(alloc, fleet, number, line, &mut buffers, writer)?;
         rest = after;
     }
     Ok(())
 }
 
-/// Does the line with this number, in the spare room where it makes a changeset. It gives what the line was answered.
+/// Does the line with this number, with the buffers of an entry where it makes a changeset. It gives what the events of
+/// the line were answered.
+#[tactic(auto, using(crate::proofs::GrowLemmas::grows_stays))]
 pub(crate) fn run_line<W: Write>(
     alloc: Global,
     fleet: &mut Fleet,
     number: usize,
     line: &[u8],
-    spare: &mut Spare,
+    buffers: &mut EntryBuffers,
     writer: &mut W,
-) -> Result<Told, RunFault>
-    ensures done { IfOk result (λ told. (t : Trace) × (output : Text) × DoesLine fleet.old line.now t fleet.new
+) -> Result<LineOutcome, RunFault>
+    ensures done { IfOk result (λ outcome. (t : Trace) × (output : Text) × DoesLine fleet.old line.now t fleet.new
         × PrintsLine number fleet.old line.now t output
-        × Printed (W.contents writer.old) output (W.contents writer.new) × (told_answers told ≡ t.answers)) }
+        × Printed (W.contents writer.old) output (W.contents writer.new) × (outcome_answers outcome ≡ t.answers)) }
     ensures stopped { IfErr result (EndsAt number fleet.old line.now) }
     ensures unprinted { StaysAtLine result (W.contents writer.old) (W.contents writer.new) }
+    ensures grows { OnErr result (Grows (W.contents writer.old) (W.contents writer.new)) }
 {
     if !is_short(line) {
         return Err(RunFault::Line(number, LineFault::TooLong));
@@ -129,9 +133,9 @@ pub(crate) fn run_line<W: Write>(
     let words = words_of(alloc, line)?;
     let command = match read_command(words.as_slice()) {
         Ok(Some(command)) => command,
-        Ok(None) => return Ok(Told::Nothing),
+        Ok(None) => return Ok(LineOutcome::Nothing),
         Err(fault) => return Err(RunFault::Line(number, fault)),
     };
-    let told = fleet.execute(number, command, spare, writer)?;
-    Ok(told)
+    let outcome = fleet.execute(number, command, buffers, writer)?;
+    Ok(outcome)
 }

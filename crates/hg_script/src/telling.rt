@@ -2,35 +2,34 @@
 //!
 //! A script with notes does what it does without them, line by line; the notes of a line are written with what it
 //! prints.
-ghost use Rattle.std.specs.Prelude.{◌≡◌, ◌≢◌, ◌≤◌, ◌+◌, ◌⊎◌, [], IfOk, IfErr, OnOk, true, false};
+ghost use Rattle.std.specs.Prelude.{◌≡◌, ◌≢◌, ◌≤◌, ◌<◌, ◌+◌, ◌⊎◌, [], IfOk, IfErr, OnErr, OnOk, true, false};
 ghost use Rattle.std.specs.Str.Lines.{lines};
 ghost use Rattle.hg_script.specs.Commands.{Text};
-ghost use Rattle.hg_script.specs.Endings.{EndsAt, IsOfLine};
+ghost use Rattle.hg_script.specs.Endings.{EndsAt, HasWords, IsOfLine};
 ghost use Rattle.hg_script.specs.Events.{Trace, refusals};
-ghost use Rattle.hg_script.specs.Faults.{status_of};
-ghost use Rattle.hg_script.specs.Outputs.{Printed};
+ghost use Rattle.hg_script.specs.Faults.{in_text_fault, status_of};
+ghost use Rattle.hg_script.specs.Outputs.{Grows, Printed};
 ghost use Rattle.hg_script.specs.Printing.{IsAnnotated, WritesCounted, WritesLine, WritesLines, WritesRun};
-ghost use Rattle.hg_script.specs.Scripts.{IsLeftFleet, IsRunTo};
-ghost use Rattle.hg_script.specs.Stops.{IsStop, IsStoppedBy, StopsAmong};
-ghost use Rattle.hg_script.specs.Told.{IsShown};
-ghost use Rattle.hg_script.specs.Words.{words_of};
+ghost use Rattle.hg_script.specs.Scripts.{IsLeftFleet, IsRunTo, world_of};
+ghost use Rattle.hg_script.specs.Stops.{IsStop, IsStoppedBy, IsUnbegun, StopsAmong, StopsAt};
+ghost use Rattle.hg_script.specs.Outcomes.{IsLineShown};
 ghost use Rattle.hg_script.specs.declared.fault.RunFault.TheVariants.{NoMemory};
 
 use crate::blaming::word_at_fault;
 use crate::command_fault::CommandFault;
+use crate::entry_buffers::EntryBuffers;
 use crate::explaining::explain;
 use crate::fault::{LineFault, RunFault};
 use crate::fleet::Fleet;
-use crate::hint::{Hint, hint_at_fault};
+use crate::hint::{Hint, hint_at_fault, printable};
 use crate::input::read_script;
+use crate::line_outcome::{LineOutcome, print_refusals};
 use crate::lines::{count_nodes, is_short, words_of};
 use crate::origin::origin_of;
-use crate::output::LineName;
+use crate::output::{LineName, write_bytes};
 use crate::script::run_line;
-use crate::spare::Spare;
-use crate::told::{Told, print_told};
 use crate::tracing::{Done, trace};
-use crate::turned::unstable_before;
+use crate::unstable::unstable_before;
 use hg_expect::cut_line;
 use hg_node_set::IdKeys;
 use hg_peer::Peer;
@@ -62,13 +61,13 @@ pub struct Outcome {
 
 /// What ended a script with notes.
 #[derive(Debug, Drop)]
-pub struct ToldFault {
+pub struct NotedFault {
     pub fault: RunFault,
-    /// The word that the fault is about, as it is printed, with what helps.
+    /// The word that the fault is about, as it is printed, with what helps; none where there is no memory for it.
     pub word: Option<String>,
 }
 
-impl ToldFault {
+impl NotedFault {
     /// The exit status.
     pub fn status(&self) -> u8
         ensures { result ≡ status_of self.now.fault }
@@ -77,7 +76,7 @@ impl ToldFault {
     }
 }
 
-impl fmt::Display for ToldFault {
+impl fmt::Display for NotedFault {
     fn fmt<W: fmt::Write>(&self, f: &mut fmt::Formatter<W>) -> fmt::Result {
         match &self.word {
             Some(word) => write!(f, "{}: {word}", self.fault),
@@ -86,32 +85,32 @@ impl fmt::Display for ToldFault {
     }
 }
 
-impl Error for ToldFault {}
+impl Error for NotedFault {}
 
-impl From<RunFault> for ToldFault {
-    ghost from_gives = { λ fault told. told.fault ≡ fault };
+impl From<RunFault> for NotedFault {
+    ghost from_gives = { λ fault ended. ended.fault ≡ fault };
 
-    fn from(fault: RunFault) -> ToldFault {
-        ToldFault { fault, word: None }
+    fn from(fault: RunFault) -> NotedFault {
+        NotedFault { fault, word: None }
     }
 }
 
-impl From<AllocError> for ToldFault {
-    ghost from_gives = { λ _ told. told.fault ≡ NoMemory };
+impl From<AllocError> for NotedFault {
+    ghost from_gives = { λ _ ended. ended.fault ≡ NoMemory };
 
-    fn from(_error: AllocError) -> ToldFault {
-        ToldFault {
+    fn from(_error: AllocError) -> NotedFault {
+        NotedFault {
             fault: RunFault::NoMemory,
             word: None,
         }
     }
 }
 
-impl From<hg_join::NoMemory> for ToldFault {
-    ghost from_gives = { λ _ told. told.fault ≡ NoMemory };
+impl From<hg_join::NoMemory> for NotedFault {
+    ghost from_gives = { λ _ ended. ended.fault ≡ NoMemory };
 
-    fn from(_error: hg_join::NoMemory) -> ToldFault {
-        ToldFault {
+    fn from(_error: hg_join::NoMemory) -> NotedFault {
+        NotedFault {
             fault: RunFault::NoMemory,
             word: None,
         }
@@ -120,18 +119,18 @@ impl From<hg_join::NoMemory> for ToldFault {
 
 /// [`run_fleet`](crate::run_fleet), with notes on its lines. The lines of the script are done as without notes, and
 /// what they show is written with its notes. Beside the fleet it counts the lines that were refused.
-pub fn run_told<R: Read, W: Write>(
+pub fn run_with_notes<R: Read, W: Write>(
     alloc: Global,
     keys: IdKeys,
     reader: &mut R,
     writer: &mut W,
     notes: Notes,
-) -> Result<Outcome, ToldFault>
+) -> Result<Outcome, NotedFault>
     ensures ran { IfOk result (λ outcome. IsLeftFleet (R.remaining reader.old) outcome.fleet) }
-    ensures written { IfOk result (λ outcome. WritesCounted notes (R.remaining reader.old) outcome.fleet.world
+    ensures written { IfOk result (λ outcome. WritesCounted notes (R.remaining reader.old) (world_of outcome.fleet)
         outcome.refused (W.contents writer.old) (W.contents writer.new)) }
-    ensures stopped { IfErr result (λ told.
-        IsStop notes (R.remaining reader.old) told.fault (W.contents writer.old) (W.contents writer.new)) }
+    ensures stopped { IfErr result (λ ended.
+        IsStop notes (R.remaining reader.old) ended.fault (W.contents writer.old) (W.contents writer.new)) }
 {
     let text = read_script(alloc, reader)?;
     tell_text(alloc, keys, &text, writer, notes)
@@ -143,20 +142,20 @@ fn tell_text<W: Write>(
     text: &[u8],
     writer: &mut W,
     notes: Notes,
-) -> Result<Outcome, ToldFault>
+) -> Result<Outcome, NotedFault>
     ensures ran { IfOk result (λ outcome. IsRunTo text.now outcome.fleet) }
     ensures written { IfOk result (λ outcome.
-        (written : WritesRun notes text.now outcome.fleet.world (W.contents writer.old) (W.contents writer.new))
+        (written : WritesRun notes text.now (world_of outcome.fleet) (W.contents writer.old) (W.contents writer.new))
         × (outcome.refused ≡ refusals written.run.trace)) }
-    ensures stopped { IfErr result (λ told. (told.fault ≡ NoMemory)
-        ⊎ IsStoppedBy notes text.now told.fault (W.contents writer.old) (W.contents writer.new)) }
+    ensures stopped { IfErr result (λ ended. IsUnbegun ended.fault (W.contents writer.old) (W.contents writer.new)
+        ⊎ IsStoppedBy notes text.now ended.fault (W.contents writer.old) (W.contents writer.new)) }
 {
     let mut fleet = Fleet::new(alloc, keys, count_nodes(text))?;
     runs_compose::<Peer>();
     let mut lost = Vec::new(alloc);
     match tell_lines(alloc, &mut fleet, text, writer, notes, &mut lost) {
         Ok(refused) => Ok(Outcome { fleet, refused }),
-        Err(told) => Err(with_origin(alloc, &fleet, text, &lost, told, notes)),
+        Err(ended) => Err(with_origin(alloc, &fleet, text, &lost, ended, notes)),
     }
 }
 
@@ -167,27 +166,22 @@ fn with_origin(
     fleet: &Fleet,
     text: &[u8],
     lost: &[usize],
-    told: ToldFault,
+    ended: NotedFault,
     notes: Notes,
-) -> ToldFault
-    ensures { (result.fault ≡ told.fault) ⊎ (result.fault ≡ NoMemory) }
+) -> NotedFault
+    ensures { result.fault ≡ ended.fault }
 {
-    let ToldFault { fault, word } = told;
+    let NotedFault { fault, word } = ended;
     match word {
-        Some(word) if notes.explains => {
-            match put_origin(alloc, fleet, text, lost, fault, word) {
-                Ok(word) => ToldFault {
-                    fault,
-                    word: Some(word),
-                },
-                Err(_) => ToldFault::from(AllocError),
-            }
-        }
-        word => ToldFault { fault, word },
+        Some(word) if notes.explains => NotedFault {
+            fault,
+            word: Some(put_origin(alloc, fleet, text, lost, fault, word)),
+        },
+        word => NotedFault { fault, word },
     }
 }
 
-// The word, and behind it what is told of the line that gave it.
+// The word, and behind it what is told of the line that gave it, where there is memory for that.
 fn put_origin(
     alloc: Global,
     fleet: &Fleet,
@@ -195,12 +189,14 @@ fn put_origin(
     lost: &[usize],
     fault: RunFault,
     mut word: String,
-) -> Result<String, CommandFault> {
-    match origin_of(alloc, fleet, text, lost, fault)? {
-        Some(origin) => word.push_str(&origin)?,
-        None => {}
+) -> String {
+    match origin_of(alloc, fleet, text, lost, fault) {
+        Ok(Some(origin)) => {
+            let _ = word.push_str(&origin);
+            word
+        }
+        Ok(None) | Err(_) => word,
     }
-    Ok(word)
 }
 
 // It counts the lines that were refused, and notes their numbers.
@@ -211,12 +207,12 @@ fn tell_lines<W: Write>(
     writer: &mut W,
     notes: Notes,
     lost: &mut Vec<usize>,
-) -> Result<usize, ToldFault>
+) -> Result<usize, NotedFault>
     ensures done { IfOk result (λ refused. (t : Trace) × (output : Text)
         × WritesLines notes 1 fleet.old (lines text.now) t fleet.new output
         × Printed (W.contents writer.old) output (W.contents writer.new) × (refused ≡ refusals t)) }
-    ensures stopped { IfErr result (λ told. (told.fault ≡ NoMemory)
-        ⊎ StopsAmong notes 1 fleet.old (lines text.now) told.fault (W.contents writer.old) (W.contents writer.new)) }
+    ensures stopped { IfErr result (λ ended. StopsAmong notes 1 fleet.old (lines text.now) ended.fault
+        (W.contents writer.old) (W.contents writer.new)) }
 {
     let mut rest = text;
     let mut number = 0usize;
@@ -233,7 +229,9 @@ fn tell_lines<W: Write>(
 }
 
 // Notes the number of a line of which so much was refused.
-fn note_lost(count: usize, number: usize, lost: &mut Vec<usize>) -> Result<(), AllocError> {
+fn note_lost(count: usize, number: usize, lost: &mut Vec<usize>) -> Result<(), AllocError>
+    ensures { OnErr result (0 < count) }
+{
     if count > 0 {
         lost.push(number)?;
     }
@@ -241,6 +239,7 @@ fn note_lost(count: usize, number: usize, lost: &mut Vec<usize>) -> Result<(), A
 }
 
 // A line without words does nothing. It counts what was refused.
+#[tactic(auto, using(crate::proofs::GrowLemmas::grows_stays))]
 fn tell_line<W: Write>(
     alloc: Global,
     fleet: &mut Fleet,
@@ -248,16 +247,17 @@ fn tell_line<W: Write>(
     line: &[u8],
     writer: &mut W,
     notes: Notes,
-) -> Result<usize, ToldFault>
+) -> Result<usize, NotedFault>
     ensures done { IfOk result (λ refused. (t : Trace) × (output : Text)
         × WritesLine notes number fleet.old line.now t fleet.new output
         × Printed (W.contents writer.old) output (W.contents writer.new) × (refused ≡ refusals t)) }
     ensures few { IfOk result (λ refused. refused ≤ 2) }
-    ensures stopped { IfErr result (λ told. (told.fault ≡ NoMemory) ⊎ EndsAt number fleet.old line.now told.fault) }
-    ensures unwritten { IfErr result (λ told. IsOfLine told.fault → W.contents writer.new ≡ W.contents writer.old) }
+    ensures stopped { IfErr result (λ ended. StopsAt notes number fleet.old line.now ended.fault) }
+    ensures unwritten { IfErr result (λ ended. IsOfLine ended.fault → W.contents writer.new ≡ W.contents writer.old) }
+    ensures grows { OnErr result (Grows (W.contents writer.old) (W.contents writer.new)) }
 {
     if !is_short(line) {
-        return Err(ToldFault::from(RunFault::Line(number, LineFault::TooLong)));
+        return Err(NotedFault::from(RunFault::Line(number, LineFault::TooLong)));
     }
     let words = words_of(alloc, line)?;
     let words = words.as_slice();
@@ -268,6 +268,7 @@ fn tell_line<W: Write>(
 }
 
 // Does the line of these words, and writes what it shows with its notes. It counts what was refused.
+#[tactic(auto, using(crate::proofs::GrowLemmas::grows_stays))]
 fn tell_words<W: Write>(
     alloc: Global,
     fleet: &mut Fleet,
@@ -276,27 +277,29 @@ fn tell_words<W: Write>(
     words: &[&[u8]],
     writer: &mut W,
     notes: Notes,
-) -> Result<usize, ToldFault>
-    requires { words_of line.now ≢ [] }
+) -> Result<usize, NotedFault>
+    requires has { HasWords line.now words.now }
+    requires some { words.now ≢ [] }
     ensures done { IfOk result (λ refused. (t : Trace) × (output : Text)
         × WritesLine notes number fleet.old line.now t fleet.new output
         × Printed (W.contents writer.old) output (W.contents writer.new) × (refused ≡ refusals t)) }
     ensures few { IfOk result (λ refused. refused ≤ 2) }
-    ensures stopped { IfErr result (λ told. (told.fault ≡ NoMemory) ⊎ EndsAt number fleet.old line.now told.fault) }
-    ensures unwritten { IfErr result (λ told. IsOfLine told.fault → W.contents writer.new ≡ W.contents writer.old) }
+    ensures stopped { IfErr result (λ ended. StopsAt notes number fleet.old line.now ended.fault) }
+    ensures unwritten { IfErr result (λ ended. IsOfLine ended.fault → W.contents writer.new ≡ W.contents writer.old) }
+    ensures grows { OnErr result (Grows (W.contents writer.old) (W.contents writer.new)) }
 {
     let before = unstable_before(fleet, words, notes.traces)?;
     let mut text = Vec::new(alloc);
     match show_line(alloc, fleet, number, line, notes, &mut text) {
-        Ok(told) => {
+        Ok(outcome) => {
             let done = Done {
                 number,
-                told,
+                outcome,
                 before,
             };
             push_notes(alloc, fleet, words, &done, notes, &mut text)?;
             write_text(&text, writer)?;
-            Ok(done.told.refusals())
+            Ok(done.outcome.refusals())
         }
         Err(fault) => {
             keep_printed(&text, writer);
@@ -313,11 +316,11 @@ fn show_line(
     line: &[u8],
     notes: Notes,
     text: &mut Vec<u8>,
-) -> Result<Told, RunFault>
+) -> Result<LineOutcome, RunFault>
     requires { text.old.items ≡ [] }
-    ensures done { IfOk result (λ told.
-        IsShown notes.refusals_alone number fleet.old line.now told fleet.new text.new.items) }
-    ensures stopped { IfErr result (λ fault. (fault ≡ NoMemory) ⊎ EndsAt number fleet.old line.now fault) }
+    ensures done { IfOk result (λ outcome.
+        IsLineShown notes.refusals_alone number fleet.old line.now outcome fleet.new text.new.items) }
+    ensures stopped { IfErr result (EndsAt number fleet.old line.now) }
     ensures unshown { IfErr result (λ fault. IsOfLine fault → text.new.items ≡ []) }
 {
     if notes.refusals_alone {
@@ -334,15 +337,16 @@ fn show_printed(
     number: usize,
     line: &[u8],
     text: &mut Vec<u8>,
-) -> Result<Told, RunFault>
+) -> Result<LineOutcome, RunFault>
     requires { text.old.items ≡ [] }
-    ensures done { IfOk result (λ told. IsShown false number fleet.old line.now told fleet.new text.new.items) }
-    ensures stopped { IfErr result (λ fault. (fault ≡ NoMemory) ⊎ EndsAt number fleet.old line.now fault) }
+    ensures done { IfOk result (λ outcome.
+        IsLineShown false number fleet.old line.now outcome fleet.new text.new.items) }
+    ensures stopped { IfErr result (EndsAt number fleet.old line.now) }
     ensures unshown { IfErr result (λ fault. IsOfLine fault → text.new.items ≡ []) }
 {
-    let mut spare = Spare::new(alloc);
-    match run_line(alloc, fleet, number, line, &mut spare, text) {
-        Ok(told) => Ok(told),
+    let mut buffers = EntryBuffers::new(alloc);
+    match run_line(alloc, fleet, number, line, &mut buffers, text) {
+        Ok(outcome) => Ok(outcome),
         Err(fault) => Err(fault),
     }
 }
@@ -354,17 +358,18 @@ fn show_refusals(
     number: usize,
     line: &[u8],
     text: &mut Vec<u8>,
-) -> Result<Told, RunFault>
+) -> Result<LineOutcome, RunFault>
     requires { text.old.items ≡ [] }
-    ensures done { IfOk result (λ told. IsShown true number fleet.old line.now told fleet.new text.new.items) }
-    ensures stopped { IfErr result (λ fault. (fault ≡ NoMemory) ⊎ EndsAt number fleet.old line.now fault) }
+    ensures done { IfOk result (λ outcome.
+        IsLineShown true number fleet.old line.now outcome fleet.new text.new.items) }
+    ensures stopped { IfErr result (EndsAt number fleet.old line.now) }
     ensures unshown { IfErr result (λ fault. IsOfLine fault → text.new.items ≡ []) }
 {
-    let mut spare = Spare::new(alloc);
-    match run_line(alloc, fleet, number, line, &mut spare, &mut sink()) {
-        Ok(told) => match print_told(alloc, text, LineName::Sentence(number), &told) {
-            Ok(()) => Ok(told),
-            Err(_) => Err(RunFault::NoMemory),
+    let mut buffers = EntryBuffers::new(alloc);
+    match run_line(alloc, fleet, number, line, &mut buffers, &mut sink()) {
+        Ok(outcome) => match print_refusals(alloc, text, LineName::Sentence(number), &outcome) {
+            Ok(()) => Ok(outcome),
+            Err(fault) => Err(fault.at_line(number)),
         },
         Err(fault) => Err(fault),
     }
@@ -372,7 +377,7 @@ fn show_refusals(
 
 /// What ended a line that printed into a text: such a write is refused for want of memory alone.
 pub(crate) fn in_text(fault: RunFault) -> RunFault
-    ensures { (result ≡ fault) ⊎ (result ≡ NoMemory) }
+    ensures { result ≡ in_text_fault fault }
 {
     match fault {
         RunFault::Write => RunFault::NoMemory,
@@ -383,8 +388,13 @@ pub(crate) fn in_text(fault: RunFault) -> RunFault
 fn write_text<W: Write>(text: &[u8], writer: &mut W) -> Result<(), RunFault>
     ensures written { OnOk result (Printed (W.contents writer.old) text.now (W.contents writer.new)) }
     ensures err { IfErr result (λ fault. fault ≡ RunFault.Write) }
+    ensures some { OnErr result (text.now ≢ []) }
+    ensures grows { OnErr result (Grows (W.contents writer.old) (W.contents writer.new)) }
 {
-    match writer.write_all(text) {
+    if text.is_empty() {
+        return Ok(());
+    }
+    match write_bytes(text, writer) {
         Ok(()) => Ok(()),
         Err(_) => Err(RunFault::Write),
     }
@@ -392,11 +402,13 @@ fn write_text<W: Write>(text: &[u8], writer: &mut W) -> Result<(), RunFault>
 
 // What was printed before a fault stays, where it can be written.
 fn keep_printed<W: Write>(text: &[u8], writer: &mut W)
-    ensures { text.now ≡ [] → W.contents writer.new ≡ W.contents writer.old }
+    ensures stays { text.now ≡ [] → W.contents writer.new ≡ W.contents writer.old }
+    ensures grows { Grows (W.contents writer.old) (W.contents writer.new) }
 {
-    if !text.is_empty() {
-        let _ = writer.write_all(text);
+    if text.is_empty() {
+        return;
     }
+    let _ = write_bytes(text, writer);
 }
 
 // Appends to what the line of these words printed what is told of it.
@@ -410,20 +422,26 @@ fn push_notes(
 ) -> Result<(), AllocError>
     ensures { OnOk result (IsAnnotated notes text.old.items text.new.items) }
 {
-    explain(alloc, fleet, words, &done.told, notes.explains, text)?;
+    explain(alloc, fleet, words, &done.outcome, notes.explains, text)?;
     trace(alloc, fleet, words, done, notes.traces, text)
 }
 
-// The fault that ended the script, with the word that it is about where that is asked for.
-fn blamed(alloc: Global, fleet: &Fleet, words: &[&[u8]], fault: RunFault, notes: Notes) -> ToldFault
-    ensures { (result.fault ≡ fault) ⊎ (result.fault ≡ NoMemory) }
+// The fault that ended the script, with the word that it is about where that is asked for and there is memory for it.
+fn blamed(
+    alloc: Global,
+    fleet: &Fleet,
+    words: &[&[u8]],
+    fault: RunFault,
+    notes: Notes,
+) -> NotedFault
+    ensures { result.fault ≡ fault }
 {
     if !notes.explains {
-        return ToldFault::from(fault);
+        return NotedFault::from(fault);
     }
     match word_of(alloc, fleet, words, fault) {
-        Ok(word) => ToldFault { fault, word },
-        Err(_) => ToldFault::from(AllocError),
+        Ok(word) => NotedFault { fault, word },
+        Err(_) => NotedFault::from(fault),
     }
 }
 
@@ -452,21 +470,12 @@ fn helpful(alloc: Global, word: &[u8], hint: Option<Hint>) -> Result<String, All
     let (help, end) = match hint {
         Some(Hint::Form(form)) => return String::from_str(alloc, form),
         Some(Hint::Behind(help)) => (help, ")"),
-        Some(Hint::Nearest(command)) => (command, "?)"),
+        Some(Hint::Misspelt(command)) => (command, "?)"),
         None => return printable(alloc, word),
     };
     let mut text = printable(alloc, word)?;
     text.push_str(" (")?;
     text.push_str(help)?;
     text.push_str(end)?;
-    Ok(text)
-}
-
-// The word, where bytes that aren't printed, quotes and backslashes are escaped.
-fn printable(alloc: Global, word: &[u8]) -> Result<String, AllocError> {
-    let mut text = String::new(alloc);
-    for byte in word.escape_ascii() {
-        text.push(char::from(byte))?;
-    }
     Ok(text)
 }

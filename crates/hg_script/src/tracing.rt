@@ -1,14 +1,14 @@
 //! What an accepted line did, in one line.
-ghost use Rattle.std.specs.Prelude.{OnOk};
+ghost use Rattle.std.specs.Prelude.{OnOk, true};
 ghost use Rattle.hg_script.specs.Printing.{IsTraced};
 
 use crate::command::Command;
-use crate::explaining::push_node;
+use crate::explaining::{is_in_line, push_node};
 use crate::fleet::Fleet;
+use crate::line_outcome::LineOutcome;
 use crate::marking::Marking;
 use crate::reading::read_command;
-use crate::told::Told;
-use crate::turned::{Unstable, push_turned};
+use crate::unstable::{Unstable, push_unstable_change};
 use hg_changeset::Node;
 use hg_peer::Scope;
 use hg_phases::Phase;
@@ -20,7 +20,7 @@ use std::alloc::{AllocError, Global};
 #[derive(Drop)]
 pub struct Done {
     pub number: usize,
-    pub told: Told,
+    pub outcome: LineOutcome,
     /// What was unstable before it at the node that it changed, where lines are traced.
     pub before: Option<Unstable>,
 }
@@ -44,8 +44,19 @@ pub fn trace(
     if note.is_empty() {
         return Ok(());
     }
-    text.extend_from_slice(&note)?;
-    text.extend_from_slice(b"\n")
+    put_below(&note, text)
+}
+
+// Puts the note below the text, in a line of its own. A note of several lines isn't put.
+fn put_below(note: &[u8], text: &mut Vec<u8>) -> Result<(), AllocError>
+    ensures { OnOk result (IsTraced true text.old.items text.new.items) }
+{
+    if !is_in_line(note) {
+        return Ok(());
+    }
+    text.extend_from_slice(note)?;
+    text.extend_from_slice(b"\n")?;
+    Ok(())
 }
 
 // What the line of these words did; nothing, where it wasn't accepted or asked for no event.
@@ -70,9 +81,9 @@ fn push_note(
     command: Command<'_>,
     text: &mut Vec<u8>,
 ) -> Result<(), AllocError> {
-    match &done.told {
-        Told::Nothing => Ok(()),
-        Told::Event { at, answer } => match answer {
+    match &done.outcome {
+        LineOutcome::Nothing => Ok(()),
+        LineOutcome::Event { at, answer } => match answer {
             Answer::Accepted(change) => trace_change(alloc, fleet, done, *at, change, text),
             Answer::Offered(message) => {
                 push_number(alloc, done.number, text)?;
@@ -81,16 +92,16 @@ fn push_note(
             Answer::Marked => trace_mark(alloc, done.number, command, text),
             Answer::Refused(_) => Ok(()),
         },
-        Told::Taken { at, answer, .. } => match answer {
+        LineOutcome::Taken { at, answer, .. } => match answer {
             Answer::Accepted(change) => trace_change(alloc, fleet, done, *at, change, text),
             Answer::Offered(_) | Answer::Marked | Answer::Refused(_) => Ok(()),
         },
-        Told::Pulled { at, pulled } => match (&pulled.offered, &pulled.taken) {
+        LineOutcome::Pulled { at, pulled } => match (&pulled.offered, &pulled.taken) {
             (Answer::Offered(message), Some(Answer::Accepted(change))) => {
                 push_number(alloc, done.number, text)?;
                 push_sides(command, text)?;
                 push_change(alloc, fleet, *at, change, text)?;
-                push_turned(alloc, fleet, *at, done.before.as_ref(), text)?;
+                push_unstable_change(alloc, fleet, *at, done.before.as_ref(), text)?;
                 push_size(alloc, fleet, *message, text)
             }
             _ => Ok(()),
@@ -109,7 +120,7 @@ fn trace_change(
 ) -> Result<(), AllocError> {
     push_number(alloc, done.number, text)?;
     push_change(alloc, fleet, at, change, text)?;
-    push_turned(alloc, fleet, at, done.before.as_ref(), text)
+    push_unstable_change(alloc, fleet, at, done.before.as_ref(), text)
 }
 
 // Appends the trace of a mark.

@@ -1,7 +1,7 @@
 use Rattle.std.proofs.Common.{List, ℕ, ◌++◌, ap, sym, subst, ◌∙◌}
 use Rattle.hg_script.specs.Commands.{Text}
 use Rattle.hg_script.specs.Printing.{PrintsLine}
-use Rattle.hg_script.proofs.EndingLemmas.{told_of}
+use Rattle.hg_script.proofs.EndingLemmas.{text_ends}
 use Rattle.hg_script.proofs.by_line.output_of.Goals as goal
 
 pub returns-in-Ok-clause-done : goal.returns-in-Ok-clause-done
@@ -11,4 +11,5 @@ returns-in-Ok-clause-done c =
     (t, does, subst (λ (u : Text). PrintsLine c.args.number c.args.fleet.now c.args.line.now t u) (sym same) prints)
 
 pub returns-in-Err-clause-stopped : goal.returns-in-Err-clause-stopped
-returns-in-Err-clause-stopped c = told_of _ _ _ _ _ c.in_text.ensures c.in-Err.ensures.stopped
+returns-in-Err-clause-stopped c =
+    rw c.in_text.ensures (text_ends c.args.number _ _ c.in-Err.fault c.in-Err.ensures.stopped)

@@ -1,10 +1,10 @@
-use Rattle.std.proofs.Common.{length, sym, ap, ◌∙◌, arith, inl, inr, refl, None}
+use Rattle.std.proofs.Common.{[], length, sym, ap, ◌∙◌, arith, inr, refl, None}
 use Rattle.std.proofs.lemmas.Bool.{eqb-true}
 use Rattle.std.proofs.lemmas.List.{nil_from_length}
 use Rattle.std.proofs.lemmas.Result.{err_from_is_err_and}
 use Rattle.std.specs.Str.Lines.{lines}
 use Rattle.hg_script.proofs.ByLineLemmas.{prints_on-end, prints_on-more, prints_on-start, texts-push}
-use Rattle.hg_script.proofs.EndingLemmas.{stops_here}
+use Rattle.hg_script.proofs.EndingLemmas.{bare_stops, stops_here}
 use Rattle.hg_script.proofs.by_line.outputs_in.Goals as goal
 
 pub loop-rest-init : goal.loop-rest-init
@@ -22,11 +22,9 @@ loop-rest-preserved c =
 pub returns-in_err-output-clause-stopped : goal.returns-in_err-output-clause-stopped
 returns-in_err-output-clause-stopped c =
     let p = err_from_is_err_and c.from_residual.result c.from_residual.ensures.1 in
-    rw (p.1, p.2) (elim c.in_err-output.ensures.stopped [
-      | inl none ↦ inl none
-      | inr ends ↦ inr (c.loop-rest.invariant.prints.stopped _
-          (stops_here _ _ _ _ _ _ _ None None c.cut_line.ensures.lines ends (λ own. refl)))
-    ])
+    rw (p.1, p.2) (inr (c.loop-rest.invariant.prints.stopped _
+    (stops_here _ _ _ _ _ _ _ None None c.cut_line.ensures.lines (bare_stops _ _ _ _ c.in_err-output.ensures.stopped)
+    (λ own. refl) ([], tt))))
 
 pub returns-clause-done : goal.returns-clause-done
 returns-clause-done c =

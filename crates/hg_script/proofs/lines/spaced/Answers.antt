@@ -1,10 +1,7 @@
-use Rattle.std.proofs.Common.{rules, tests, ◌≡◌, ◌<◌, ◌==◌, ◌++◌, ℕ, List, not, length, map, ap, sym, ◌∙◌, Some}
+use Rattle.std.proofs.Common.{rules, tests, ◌≡◌, ◌<◌, ◌==◌, ◌++◌, not, length, map, ap, sym, ◌∙◌, Some}
 use Rattle.std.proofs.Common.{arith, refl, slice_get}
-use denote.Bor.{Bor}
-use Rattle.std.proofs.lemmas.Iterator.{YieldsList}
 use Rattle.std.proofs.lemmas.Iterator.Consumers.{YieldsList-at, YieldsList-from_filter, nth_from_yields_List}
 use Rattle.std.proofs.lemmas.Iterator.Splits.{YieldsList-from_slice_split}
-use Rattle.std.proofs.lemmas.List.{length-append}
 use Rattle.std.proofs.lemmas.Option.{slice_get_within}
 use Rattle.std.proofs.lemmas.Result.{err_from_is_err_and}
 use Rattle.hg_script.specs.Words.{spaced}

@@ -1,8 +1,10 @@
 use Rattle.std.proofs.Common.{◌++◌, ap, length}
 use Rattle.std.proofs.KnownBytes.{Appends-trans}
+use Rattle.std.proofs.lemmas.Result.{err_from_is_err_and}
 use Rattle.hg_phases.specs.State.{changesets}
 use Rattle.hg_replica.specs.State.{ReplicaState}
 use Rattle.hg_script.specs.Reports.{heading, totals}
+use Rattle.hg_script.proofs.GrowLemmas.{grows_after}
 use Rattle.hg_script.proofs.report.print_report.Goals as goal
 
 pub returns-clause-printed : goal.returns-clause-printed
@@ -24,3 +26,18 @@ returns-clause-printed g c =
           (Appends-trans _ _ _ first d.1 c.in_ok-print_heading.ensures.printed d.4)
           c.in_ok-print_totals.ensures.printed,
     )
+
+pub returns-in_err-print_changesets-clause-grows : goal.returns-in_err-print_changesets-clause-grows
+returns-in_err-print_changesets-clause-grows g c =
+    let p = err_from_is_err_and c.from_residual-in_err-print_changesets.result
+    c.from_residual-in_err-print_changesets.ensures.1 in
+    rw p.1 (grows_after _ _ _ (heading c.args.name.now) c.in_ok-print_heading.ensures.printed
+    c.in_err-print_changesets.ensures.grows)
+
+pub returns-in_err-print_totals-clause-grows : goal.returns-in_err-print_totals-clause-grows
+returns-in_err-print_totals-clause-grows g c =
+    let p = err_from_is_err_and c.from_residual-in_err-print_totals.result
+    c.from_residual-in_err-print_totals.ensures.1 in
+    let d = c.in_ok-print_changesets.ensures.printed in
+    rw p.1 (grows_after _ _ _ (heading c.args.name.now) c.in_ok-print_heading.ensures.printed
+    (grows_after _ _ _ d.1 d.4 c.in_err-print_totals.ensures.grows))

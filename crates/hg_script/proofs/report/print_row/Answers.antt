@@ -9,6 +9,8 @@ use Rattle.hg_replica.specs.State.{ReplicaState}
 use Rattle.hg_script.specs.Commands.{Text}
 use Rattle.hg_script.specs.Reports.{line_of, with_words}
 use Rattle.hg_script.proofs.ReportLemmas.{row_of}
+use Rattle.hg_script.proofs.EndingLemmas.{on_err_always}
+use Rattle.hg_script.proofs.GrowLemmas.{grows_stays}
 use Rattle.hg_script.proofs.report.print_row.Goals as goal
 
 pub returns-clause-printed : goal.returns-clause-printed
@@ -36,3 +38,7 @@ returns-clause-printed g c =
           c.status.ensures whole,
       c.in_ok-print_line.ensures.printed,
     )
+
+pub returns-in_err-push_words-clause-grows : goal.returns-in_err-push_words-clause-grows
+returns-in_err-push_words-clause-grows g c =
+    on_err_always c.from_residual-in_err-push_words.result (grows_stays (g.W.Write.contents c.args.writer.now))

@@ -1,6 +1,6 @@
 use Rattle.std.proofs.Common.{◌≡◌, Option, [], drop}
 use Rattle.hg_script.specs.Commands.{Text}
-use Rattle.hg_script.specs.Outputs.{Printed}
+use Rattle.hg_script.specs.Outputs.{Grows, Printed}
 use Rattle.hg_script.specs.Reports.{AreRowLines, row_values}
 use Rattle.hg_script.proofs.report.print_rows.Given as goal
 
@@ -12,4 +12,5 @@ invariant-loop-label g l = record {
       → (text : Text) × AreRowLines l.kept (row_values l.rows) text
       × Printed (g.W.Write.contents l.initial.writer) text holds;
   empty : l.line.items ≡ [];
+  grew : Grows (g.W.Write.contents l.initial.writer) (g.W.Write.contents l.writer);
 }

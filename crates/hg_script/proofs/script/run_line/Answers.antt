@@ -33,7 +33,7 @@ returns-clause-done g c =
     let mapped = ap (map (λ (w : Word). w.now)) c.as_slice.ensures ∙ c.in_ok-words.ensures.words in
     let command = c.in-Ok-Some.command in
     let says = rw c.in-Ok-Some.field-0-is at c.in-Ok-Some.ensures in
-    let d = c.in_ok-told.ensures.ok in (
+    let d = c.in_ok-outcome.ensures.ok in (
       d.0,
       d.1,
       (short, (c.as_slice.result.now, mapped, inr (command, says, d.3))),
@@ -51,9 +51,9 @@ returns-in-Err-clause-stopped g c =
     ) in
     (refl, words_fault _ _ c.as_slice.result.now _ has c.in-Err.ensures)
 
-pub returns-in_err-told-clause-stopped : goal.returns-in_err-told-clause-stopped
-returns-in_err-told-clause-stopped g c =
-    let p = err_from_is_err_and c.from_residual-in_err-told.result c.from_residual-in_err-told.ensures.1 in
+pub returns-in_err-outcome-clause-stopped : goal.returns-in_err-outcome-clause-stopped
+returns-in_err-outcome-clause-stopped g c =
+    let p = err_from_is_err_and c.from_residual-in_err-outcome.result c.from_residual-in_err-outcome.ensures.1 in
     let has : HasWords c.args.line.now c.as_slice.result.now = (
       c.is_short.ensures.0 c.if-not-is_short.false,
       ap (map (λ (w : Word). w.now)) c.as_slice.ensures
@@ -61,9 +61,9 @@ returns-in_err-told-clause-stopped g c =
     ) in
     let says : Says c.args.line.now c.in-Ok-Some.command =
     (c.as_slice.result.now, has, rw c.in-Ok-Some.field-0-is at c.in-Ok-Some.ensures) in
-    rw (p.1, p.2) (command_ends _ _ _ c.in-Ok-Some.command _ says c.in_err-told.ensures.err.0)
+    rw (p.1, p.2) (command_ends _ _ _ c.in-Ok-Some.command _ says c.in_err-outcome.ensures.err.0)
 
-pub returns-in_err-told-clause-unprinted : goal.returns-in_err-told-clause-unprinted
-returns-in_err-told-clause-unprinted g c =
-    let p = err_from_is_err_and c.from_residual-in_err-told.result c.from_residual-in_err-told.ensures.1 in
-    rw (p.1, p.2) c.in_err-told.ensures.unprinted
+pub returns-in_err-outcome-clause-unprinted : goal.returns-in_err-outcome-clause-unprinted
+returns-in_err-outcome-clause-unprinted g c =
+    let p = err_from_is_err_and c.from_residual-in_err-outcome.result c.from_residual-in_err-outcome.ensures.1 in
+    rw (p.1, p.2) c.in_err-outcome.ensures.unprinted

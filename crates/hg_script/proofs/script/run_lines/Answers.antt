@@ -3,7 +3,7 @@ use Rattle.std.proofs.lemmas.Bool.{eqb-true}
 use Rattle.std.proofs.lemmas.List.{nil_from_length}
 use Rattle.std.proofs.lemmas.Result.{err_from_is_err_and}
 use Rattle.std.specs.Str.Lines.{lines}
-use Rattle.hg_script.proofs.EndingLemmas.{goes_on-end, goes_on-more, goes_on-start, stays_own, stops_here}
+use Rattle.hg_script.proofs.EndingLemmas.{bare_stops, goes_on-end, goes_on-more, goes_on-start, stays_own, stops_here}
 use Rattle.hg_script.proofs.ScriptLemmas.{bare_line}
 use Rattle.hg_script.specs.Events.{refusals}
 use Rattle.hg_script.proofs.script.run_lines.Goals as goal
@@ -28,8 +28,8 @@ pub returns-in_err-run_line-clause-stopped : goal.returns-in_err-run_line-clause
 returns-in_err-run_line-clause-stopped g c =
     let p = err_from_is_err_and c.from_residual.result c.from_residual.ensures.1 in
     rw (p.1, p.2) (c.loop-rest.invariant.goes.1.stopped _ _
-    (stops_here _ _ _ _ _ _ _ _ _ c.cut_line.ensures.lines c.in_err-run_line.ensures.stopped
-    (stays_own _ _ _ c.in_err-run_line.ensures.unprinted)))
+    (stops_here _ _ _ _ _ _ _ _ _ c.cut_line.ensures.lines (bare_stops _ _ _ _ c.in_err-run_line.ensures.stopped)
+    (stays_own _ _ _ c.in_err-run_line.ensures.unprinted) c.in_err-run_line.ensures.grows))
 
 pub returns-clause-done : goal.returns-clause-done
 returns-clause-done g c =

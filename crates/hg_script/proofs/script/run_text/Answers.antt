@@ -1,18 +1,23 @@
-use Rattle.std.proofs.Common.{ℕ, subst, inr}
+use Rattle.std.proofs.Common.{ℕ, refl, subst, inl, inr}
 use Rattle.std.proofs.lemmas.Result.{err_from_is_err_and}
 use Rattle.hg_script.specs.Printing.{no_notes}
 use Rattle.hg_script.specs.Scripts.{IsNewFleet}
-use Rattle.hg_script.proofs.EndingLemmas.{stopped_told}
+use Rattle.hg_script.proofs.EndingLemmas.{stopped_text}
 use Rattle.hg_script.proofs.ScriptLemmas.{run_to, written_run}
 use Rattle.hg_script.proofs.script.run_text.Goals as goal
+
+pub returns-in_err-fleet-clause-stopped : goal.returns-in_err-fleet-clause-stopped
+returns-in_err-fleet-clause-stopped g c =
+    let p = err_from_is_err_and c.from_residual.result c.from_residual.ensures.1 in
+    rw (p.1, p.2) (inl (refl, refl))
 
 pub returns-in_err-run_lines-clause-stopped : goal.returns-in_err-run_lines-clause-stopped
 returns-in_err-run_lines-clause-stopped g c =
     let p = err_from_is_err_and c.from_residual-in_err-run_lines.result c.from_residual-in_err-run_lines.ensures.1 in
     let start = c.in_ok-fleet.fleet in
-    rw (p.1, p.2) (stopped_told _ _ start _ _ _
+    rw (p.1, p.2) (inr (stopped_text _ _ start _ _ _
     (subst (λ (n : ℕ). IsNewFleet n start) c.count_nodes.ensures c.in_ok-fleet.ensures.new)
-    (inr c.in_err-run_lines.ensures.stopped))
+    c.in_err-run_lines.ensures.stopped))
 
 pub returns-clause-ran : goal.returns-clause-ran
 returns-clause-ran g c =

@@ -1,4 +1,4 @@
-use Rattle.std.proofs.Common.{List, ℕ, ◌++◌, inr, ap, sym, subst, ◌∙◌}
+use Rattle.std.proofs.Common.{List, ℕ, ◌++◌, ap, sym, subst, ◌∙◌}
 use Rattle.std.proofs.lemmas.Option.{same_Some}
 use Rattle.hg_script.specs.Commands.{Text}
 use Rattle.hg_script.specs.Printing.{PrintsLine}
@@ -11,9 +11,6 @@ returns-in-Ok-clause-done c =
     let same = grew ∙ ap (λ (xs : List ℕ). xs ++ output) c.requires in
     let shows = subst (λ (u : Text). PrintsLine c.args.number c.args.fleet.now c.args.line.now t u) (sym same) prints in
     (t, output, does, prints, shows, is)
-
-pub returns-clause-stopped : goal.returns-clause-stopped
-returns-clause-stopped c = inr c.in-Err.ensures.stopped
 
 pub returns-clause-unshown : goal.returns-clause-unshown
 returns-clause-unshown c = λ own.

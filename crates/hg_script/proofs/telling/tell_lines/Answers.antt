@@ -1,9 +1,11 @@
-use Rattle.std.proofs.Common.{◌+◌, length, sym, ap, ◌∙◌, arith, inl, inr}
+use Rattle.std.proofs.Common.{◌≤◌, length, sym, ap, ◌∙◌, arith}
 use Rattle.std.proofs.lemmas.Bool.{eqb-true}
 use Rattle.std.proofs.lemmas.List.{nil_from_length}
 use Rattle.std.proofs.lemmas.Result.{err_from_is_err_and}
 use Rattle.std.specs.Str.Lines.{lines}
-use Rattle.hg_script.proofs.EndingLemmas.{goes_on-end, goes_on-more, goes_on-start, stops_here}
+use Rattle.hg_script.specs.Events.{refusals}
+use Rattle.hg_script.proofs.EndingLemmas.{goes_on-end, goes_on-more, goes_on-start, refused_says, stops_here}
+use Rattle.hg_script.proofs.EndingLemmas.{write_ends}
 use Rattle.hg_script.proofs.telling.tell_lines.Goals as goal
 
 pub loop-rest-init : goal.loop-rest-init
@@ -22,11 +24,19 @@ loop-rest-preserved g c =
 pub returns-in_err-count-clause-stopped : goal.returns-in_err-count-clause-stopped
 returns-in_err-count-clause-stopped g c =
     let p = err_from_is_err_and c.from_residual.result c.from_residual.ensures.1 in
-    rw (p.1, p.2) (elim c.in_err-count.ensures.stopped [
-      | inl none ↦ inl none
-      | inr ends ↦ inr (c.loop-rest.invariant.goes.stopped _ _
-          (stops_here _ _ _ _ _ _ _ _ _ c.cut_line.ensures.lines ends c.in_err-count.ensures.unwritten))
-    ])
+    rw (p.1, p.2) (c.loop-rest.invariant.goes.stopped _ _
+    (stops_here _ _ _ _ _ _ _ _ _ c.cut_line.ensures.lines c.in_err-count.ensures.stopped
+    c.in_err-count.ensures.unwritten c.in_err-count.ensures.grows))
+
+pub returns-in_err-note_lost-clause-stopped : goal.returns-in_err-note_lost-clause-stopped
+returns-in_err-note_lost-clause-stopped g c =
+    let p = err_from_is_err_and c.from_residual-in_err-note_lost.result c.from_residual-in_err-note_lost.ensures.1 in
+    let (t, output, wrote, grew, refused) = c.in_ok-count.ensures.done in
+    let some : 1 ≤ refusals t = omega (arith, refused, c.in_err-note_lost.ensures) in
+    rw (p.1, p.2) (c.loop-rest.invariant.goes.stopped _ _
+    (stops_here _ _ _ _ _ _ _ _ _ c.cut_line.ensures.lines
+    (write_ends 0 c.loop-rest.fleet c.cut_line.result.0.now
+    (refused_says c.loop-rest.fleet c.cut_line.result.0.now t _ wrote.0 some)) (λ own. absurd own) (output, grew)))
 
 pub returns-clause-done : goal.returns-clause-done
 returns-clause-done g c =

@@ -14,7 +14,8 @@ returns-then-is_some-clause-err c = (
 pub returns-in_err-bind-clause-err : goal.returns-in_err-bind-clause-err
 returns-in_err-bind-clause-err c =
     let p = err_from_is_err_and c.from_residual.result c.from_residual.ensures.1 in
-    rw (p.1, p.2) (tt, (no_trace, refl))
+    let free = sym c.bound.ensures ∙ unbound c.bound.result (sym c.is_some.ensures ∙ c.if-is_some.false) in
+    rw (p.1, p.2) (free, (no_trace, refl))
 
 pub returns-clause-ok : goal.returns-clause-ok
 returns-clause-ok c =
@@ -24,5 +25,5 @@ returns-clause-ok c =
     c.in_ok-bind.ensures.bound in (
       no_trace,
       refl,
-      record { asked = refl; ran = refl; told = tt; named = (sym c.bound.ensures ∙ taken, binds, refl, refl) },
+      record { asked = refl; ran = refl; printed = tt; named = (sym c.bound.ensures ∙ taken, binds, refl, refl) },
     )

@@ -1,7 +1,8 @@
-use Rattle.std.proofs.Common.{Some, IsTrue, ◌↔◌, subst}
+use Rattle.std.proofs.Common.{Some, IsTrue, ◌↔◌, ap, is_some, subst}
 use Rattle.hg_replica.specs.State.{ReplicaState, IsSameState}
 use Rattle.std.proofs.lemmas.Result.{err_from_is_err_and}
-use Rattle.hg_script.proofs.EndingLemmas.{node_from_place, stays_printed}
+use Rattle.hg_script.specs.declared.command.Command.TheVariants.{Agree}
+use Rattle.hg_script.proofs.EndingLemmas.{node_from_place, print_fault, stays_printed}
 use Rattle.hg_script.proofs.ScriptLemmas.{agreed}
 use Rattle.hg_script.proofs.fleet.Fleet.agree.Goals as goal
 
@@ -25,3 +26,15 @@ returns-in_err-print_agreement-clause-unprinted g c =
     let p = err_from_is_err_and c.from_residual-in_err-print_agreement.result
     c.from_residual-in_err-print_agreement.ensures.1 in
     rw (p.1, p.2) (stays_printed _ _ _ c.in_err-print_agreement.ensures.err)
+
+pub returns-in_err-print_agreement-clause-err : goal.returns-in_err-print_agreement-clause-err
+returns-in_err-print_agreement-clause-err g c =
+    let p = err_from_is_err_and c.from_residual-in_err-print_agreement.result
+    c.from_residual-in_err-print_agreement.ensures.1 in
+    let self = c.args.self.now in
+    let one = node_from_place self c.args.one.now _ (Some c.in_ok-first.first.now) c.in_ok-place.ensures.ok
+    c.in_ok-first.ensures.ok in
+    let other = node_from_place self c.args.other.now _ (Some c.in_ok-second.second.now) c.in_ok-place-2.ensures.ok
+    c.in_ok-second.ensures.ok in
+    rw (p.1, p.2) (print_fault self (Agree c.args.one c.args.other) _ (ap is_some one, ap is_some other)
+    c.in_err-print_agreement.ensures.err)

@@ -1,6 +1,7 @@
 use Rattle.std.proofs.Common.{refl}
 use Rattle.hg_script.specs.declared.command.Command.TheVariants as command
-use Rattle.hg_script.proofs.EndingLemmas.{left_unchanged}
+use Rattle.hg_script.proofs.EndingLemmas.{left_unchanged, on_err_always}
+use Rattle.hg_script.proofs.GrowLemmas.{grows_stays}
 use Rattle.hg_script.proofs.ScriptLemmas.{quiet}
 use Rattle.hg_script.proofs.fleet.Fleet.answer.Goals as goal
 
@@ -50,3 +51,24 @@ pub returns-in-Agree-clause-err : goal.returns-in-Agree-clause-err
 returns-in-Agree-clause-err g c =
     rw c.in-Agree.is (left_unchanged c.args.self.now (command.Agree c.in-Agree.one c.in-Agree.other) c.agree.result
     c.agree.ensures.err)
+
+pub returns-in-Node-clause-grows : goal.returns-in-Node-clause-grows
+returns-in-Node-clause-grows g c = on_err_always c.add_node.result (grows_stays _)
+
+pub returns-in-Operation-clause-grows : goal.returns-in-Operation-clause-grows
+returns-in-Operation-clause-grows g c = on_err_always c.operate.result (grows_stays _)
+
+pub returns-in-Mark-clause-grows : goal.returns-in-Mark-clause-grows
+returns-in-Mark-clause-grows g c = on_err_always c.mark.result (grows_stays _)
+
+pub returns-in-Offer-clause-grows : goal.returns-in-Offer-clause-grows
+returns-in-Offer-clause-grows g c = on_err_always c.keep_offer.result (grows_stays _)
+
+pub returns-in-Take-clause-grows : goal.returns-in-Take-clause-grows
+returns-in-Take-clause-grows g c = on_err_always c.take.result (grows_stays _)
+
+pub returns-in-Pull-clause-grows : goal.returns-in-Pull-clause-grows
+returns-in-Pull-clause-grows g c = on_err_always c.pull.result (grows_stays _)
+
+pub returns-in-Offer-clause-err : goal.returns-in-Offer-clause-err
+returns-in-Offer-clause-err g c = rw c.in-Offer.is c.keep_offer.ensures.err

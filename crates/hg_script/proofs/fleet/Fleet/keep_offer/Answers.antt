@@ -11,16 +11,16 @@ use Rattle.hg_script.proofs.fleet.Fleet.keep_offer.Goals as goal
 
 pub returns-in_err-common-clause-err : goal.returns-in_err-common-clause-err
 returns-in_err-common-clause-err c =
-    let p = err_from_is_err_and c.from_residual.result c.from_residual.ensures.1 in
+    let p = err_from_is_err_and c.from_residual-in_err-common.result c.from_residual-in_err-common.ensures.1 in
     rw (p.1, p.2) (
       fault_of_command _ c.args.self.now (command.Offer c.args.scope c.args.at c.args.message c.args.labels) _
-          (λ h. inr h) c.in_err-common.ensures.err,
+          (λ h. inr h) (ap is_some c.in_ok-place.ensures.ok) c.in_err-common.ensures.err,
       (no_trace, refl),
     )
 
 pub returns-in_err-place-clause-err : goal.returns-in_err-place-clause-err
 returns-in_err-place-clause-err c =
-    let p = err_from_is_err_and c.from_residual-in_err-place.result c.from_residual-in_err-place.ensures.1 in
+    let p = err_from_is_err_and c.from_residual.result c.from_residual.ensures.1 in
     let missing = no_place c.args.self.now _ c.in_err-place.ensures.err.1 in
     rw (p.1, p.2) (
       unknown_fault c.args.self.now (command.Offer c.args.scope c.args.at c.args.message c.args.labels) _
@@ -41,15 +41,16 @@ returns-in_err-answer-clause-err c =
     (asking c.args.scope c.in_ok-common.common) c.in_ok-place.ensures.ok in
     rw (p.1, p.2) (
       fault_of_command _ c.args.self.now (command.Offer c.args.scope c.args.at c.args.message c.args.labels) _
-          (λ h. inl (leads h)) c.in_err-answer.ensures.fault,
+          (λ h. inl (leads h)) (ap is_some c.in_ok-place.ensures.ok) c.in_err-answer.ensures.fault,
       (no_trace, c.in_err-answer.ensures.unchanged),
     )
 
-pub returns-in_err-keep-clause-err : goal.returns-in_err-keep-clause-err
-returns-in_err-keep-clause-err c =
-    let p = err_from_is_err_and c.from_residual-in_err-keep.result c.from_residual-in_err-keep.ensures.1 in
-    rw (p.1, p.2, c.in_err-keep.ensures.err) (
-      tt,
+pub returns-in_err-name_message-clause-err : goal.returns-in_err-name_message-clause-err
+returns-in_err-name_message-clause-err c =
+    let p = err_from_is_err_and c.from_residual-in_err-name_message.result
+    c.from_residual-in_err-name_message.ensures.1 in
+    rw (p.1, p.2, c.in_err-name_message.ensures.err) (
+      ap is_some c.in_ok-place.ensures.ok,
       ran_after _ _ _ (Offer c.in_ok-place.place (asking c.args.scope c.in_ok-common.common)) _
           c.in_ok-answer.ensures.happens refl,
     )
@@ -62,12 +63,12 @@ returns-clause-ok c =
       record {
         asked = (c.in_ok-place.place, c.in_ok-common.common, c.in_ok-place.ensures.ok, c.in_ok-common.ensures.ok, refl);
         ran = (c.run_event.new.world, h.1, refl);
-        told = (c.in_ok-answer.ensures.told, tt);
+        printed = (c.in_ok-answer.ensures.printed, tt);
         named = (
           refl,
           refl,
           sym c.bound.ensures ∙ unbound c.bound.result (sym c.is_some.ensures ∙ c.if-is_some.false),
-          c.in_ok-keep.ensures.ok,
+          c.in_ok-name_message.ensures.ok,
         );
       },
     )

@@ -1,4 +1,4 @@
-use Rattle.std.proofs.Common.{List, [], ◌∷◌, map, Some, refl, subst, inl, inr, IsTrue}
+use Rattle.std.proofs.Common.{List, [], ◌∷◌, map, Some, refl, subst, inl, inr, IsTrue, ap, is_some}
 use Rattle.std.proofs.lemmas.Result.{err_from_is_err_and}
 use Rattle.hg_world.specs.declared.event.Event.TheVariants.{Local}
 use Rattle.hg_script.specs.declared.command.Command.TheVariants as command
@@ -12,16 +12,16 @@ use Rattle.hg_script.proofs.fleet.Fleet.operate.Goals as goal
 
 pub returns-in_err-op-clause-err : goal.returns-in_err-op-clause-err
 returns-in_err-op-clause-err c =
-    let p = err_from_is_err_and c.from_residual.result c.from_residual.ensures.1 in
+    let p = err_from_is_err_and c.from_residual-in_err-op.result c.from_residual-in_err-op.ensures.1 in
     rw (p.1, p.2) (
       fault_of_command _ c.args.self.now (command.Operation c.args.at c.args.operation) _ (λ h. inr h)
-          c.in_err-op.ensures.err,
+          (ap is_some c.in_ok-place.ensures.ok) c.in_err-op.ensures.err,
       (no_trace, refl),
     )
 
 pub returns-in_err-place-clause-err : goal.returns-in_err-place-clause-err
 returns-in_err-place-clause-err c =
-    let p = err_from_is_err_and c.from_residual-in_err-place.result c.from_residual-in_err-place.ensures.1 in
+    let p = err_from_is_err_and c.from_residual.result c.from_residual.ensures.1 in
     let missing = no_place c.args.self.now _ c.in_err-place.ensures.err.1 in
     rw (p.1, p.2) (
       unknown_fault c.args.self.now (command.Operation c.args.at c.args.operation) _ c.in_err-place.ensures.err.0
@@ -58,15 +58,17 @@ returns-in_err-answer-clause-err c =
     let leads = local_nowhere c.args.self.now c.args.at c.in_ok-place.place c.in_ok-op.op c.in_ok-place.ensures.ok in
     rw (p.1, p.2) (
       fault_of_command _ c.args.self.now (command.Operation c.args.at c.args.operation) _ (λ h. inl (leads h))
-          c.in_err-answer.ensures.fault,
+          (ap is_some c.in_ok-place.ensures.ok) c.in_err-answer.ensures.fault,
       (no_trace, c.in_err-answer.ensures.unchanged),
     )
 
 pub returns-in_err-label-clause-err : goal.returns-in_err-label-clause-err
 returns-in_err-label-clause-err c =
     let p = err_from_is_err_and c.from_residual-in_err-label.result c.from_residual-in_err-label.ensures.1 in
-    rw (p.1, p.2, c.in_err-label.ensures.err)
-    (tt, ran_after _ _ _ (Local c.in_ok-place.place c.in_ok-op.op) _ c.in_ok-answer.ensures.happens refl)
+    rw (p.1, p.2, c.in_err-label.ensures.err) (
+      ap is_some c.in_ok-place.ensures.ok,
+      ran_after _ _ _ (Local c.in_ok-place.place c.in_ok-op.op) _ c.in_ok-answer.ensures.happens refl,
+    )
 
 pub returns-clause-ok : goal.returns-clause-ok
 returns-clause-ok c =
@@ -84,7 +86,7 @@ returns-clause-ok c =
       record {
         asked = (place, op, c.in_ok-place.ensures.ok, c.in_ok-op.ensures.ok, refl);
         ran = (c.run_event.new.world, h.1, refl);
-        told = (c.in_ok-answer.ensures.told, tt);
+        printed = (c.in_ok-answer.ensures.printed, tt);
         named = (
           refl,
           subst (λ (ls : List Text). IsTrue (may_be_bound (ids self) ls (brought (h.0 ∷ [])))) labels free,

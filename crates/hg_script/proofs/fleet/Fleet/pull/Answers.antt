@@ -1,4 +1,4 @@
-use Rattle.std.proofs.Common.{refl, inl, inr}
+use Rattle.std.proofs.Common.{refl, inl, inr, ap, is_some}
 use Rattle.std.proofs.lemmas.Result.{err_from_is_err_and}
 use Rattle.hg_script.specs.declared.command.Command.TheVariants as command
 use Rattle.hg_fleet.specs.Pulls.{answers_of}
@@ -30,7 +30,7 @@ returns-in_err-taker-clause-err c =
 pub returns-in_err-pulled-clause-err : goal.returns-in_err-pulled-clause-err
 returns-in_err-pulled-clause-err c =
     let p = err_from_is_err_and c.from_residual-in_err-pulled.result c.from_residual-in_err-pulled.ensures.1 in
-    rw (p.1, p.2) (tt, (no_trace, c.in_err-pulled.ensures.unchanged))
+    rw (p.1, p.2) (ap is_some c.in_ok-taker.ensures.ok, (no_trace, c.in_err-pulled.ensures.unchanged))
 
 pub returns-in-None-clause-err : goal.returns-in-None-clause-err
 returns-in-None-clause-err c =
@@ -48,7 +48,7 @@ returns-in_err-check_pulled-in-Some-clause-err c =
     rw (p.1, p.2) (
       fault_of_command _ c.args.self.now (command.Pull c.args.scope c.args.to c.args.from) _
           (λ absent. absurd (none_told (answers_of c.in-Some.pulled) is.1 absent))
-          c.in_err-check_pulled-in-Some.ensures.fault,
+          (ap is_some c.in_ok-taker.ensures.ok) c.in_err-check_pulled-in-Some.ensures.fault,
       pulls_ran _ _ _ _ _ _ is.0,
     )
 
@@ -56,4 +56,4 @@ pub returns-in_ok-check_pulled-in-Some-clause-ok : goal.returns-in_ok-check_pull
 returns-in_ok-check_pulled-in-Some-clause-ok c =
     let is = rw c.in-Some.is at c.in_ok-pulled.ensures.pulled in
     pulls c.args.self.now c.args.scope c.args.to c.args.from c.in_ok-giver.giver c.in_ok-taker.taker _ _
-    c.in_ok-giver.ensures.ok c.in_ok-taker.ensures.ok is.0 c.in_ok-check_pulled-in-Some.ensures.told refl refl refl
+    c.in_ok-giver.ensures.ok c.in_ok-taker.ensures.ok is.0 c.in_ok-check_pulled-in-Some.ensures.printed refl refl refl

@@ -1,4 +1,4 @@
-use Rattle.std.proofs.Common.{refl, sym, ◌∙◌, inl, inr}
+use Rattle.std.proofs.Common.{refl, sym, ◌∙◌, inl, inr, ap, is_some}
 use Rattle.std.proofs.lemmas.Result.{err_from_is_err_and}
 use Rattle.hg_script.specs.declared.command.Command.TheVariants as command
 use Rattle.hg_script.specs.Events.{no_trace}
@@ -27,7 +27,7 @@ returns-in_err-answer-clause-err c =
     c.in_ok-at.ensures.ok (sym c.bound.ensures ∙ c.in-Some.is) in
     rw (p.1, p.2) (
       fault_of_command _ c.args.self.now (command.Take c.args.at c.args.message) _ leads
-          c.in_err-answer.ensures.fault,
+          (ap is_some c.in_ok-at.ensures.ok) c.in_err-answer.ensures.fault,
       (no_trace, c.in_err-answer.ensures.unchanged),
     )
 
@@ -39,7 +39,7 @@ returns-clause-ok c =
       record {
         asked = (c.in_ok-at.at, c.in-Some.message, c.in_ok-at.ensures.ok, sym c.bound.ensures ∙ c.in-Some.is, refl);
         ran = (c.run_event.new.world, h.1, refl);
-        told = (c.in_ok-answer.ensures.told, tt);
+        printed = (c.in_ok-answer.ensures.printed, tt);
         named = (refl, refl, refl);
       },
     )

@@ -1,10 +1,10 @@
 //! What a line was answered.
-ghost use Rattle.std.specs.Prelude.{◌≡◌, ◌≤◌, ◌⊎◌, IfErr, OnOk, count_by};
+ghost use Rattle.std.specs.Prelude.{◌≡◌, ◌≤◌, ◌⊎◌, IfErr, OnErr, OnOk, count_by, true};
 ghost use Rattle.hg_script.specs.Events.{is_refusal};
-ghost use Rattle.hg_script.specs.Outputs.{Printed};
+ghost use Rattle.hg_script.specs.Outputs.{Grows, Printed};
 ghost use Rattle.hg_script.specs.Printing.{answer_line, answer_lines};
 ghost use Rattle.hg_fleet.specs.Pulls.{answers_of};
-ghost use Rattle.hg_script.specs.Told.{told_answers};
+ghost use Rattle.hg_script.specs.Outcomes.{outcome_answers};
 
 use crate::command_fault::CommandFault;
 use crate::output::{LineName, print_refused};
@@ -15,7 +15,7 @@ use std::io::Write;
 
 /// What the events of a line were answered. Who runs a script without notes lets it go.
 #[derive(Drop)]
-pub enum Told {
+pub enum LineOutcome {
     /// The line asked for no event.
     Nothing,
     /// An operation, a mark or an offer at the node of this place.
@@ -36,21 +36,21 @@ pub enum Told {
     },
 }
 
-impl Told {
+impl LineOutcome {
     /// How many of the events were refused.
     pub fn refusals(&self) -> usize
-        ensures count { result ≡ count_by is_refusal (told_answers self.now) }
+        ensures count { result ≡ count_by is_refusal (outcome_answers self.now) }
         ensures few { result ≤ 2 }
     {
         match self {
-            Told::Nothing => 0,
-            Told::Event { at: _, answer } => usize::from(is_refusal(answer)),
-            Told::Taken {
+            LineOutcome::Nothing => 0,
+            LineOutcome::Event { at: _, answer } => usize::from(is_refusal(answer)),
+            LineOutcome::Taken {
                 at: _,
                 message: _,
                 answer,
             } => usize::from(is_refusal(answer)),
-            Told::Pulled { at: _, pulled } => refusals_of(pulled),
+            LineOutcome::Pulled { at: _, pulled } => refusals_of(pulled),
         }
     }
 }
@@ -76,25 +76,27 @@ fn is_refusal(answer: &PeerAnswer) -> bool
 }
 
 /// Prints why events of the line that is called so were refused, one write for each line.
-pub fn print_told<W: Write>(
+pub fn print_refusals<W: Write>(
     alloc: Global,
     writer: &mut W,
     line: LineName,
-    told: &Told,
+    outcome: &LineOutcome,
 ) -> Result<(), CommandFault>
     ensures printed { OnOk result
-        (Printed (W.contents writer.old) (answer_lines line (told_answers told.now)) (W.contents writer.new)) }
+        (Printed (W.contents writer.old) (answer_lines line (outcome_answers outcome.now)) (W.contents writer.new)) }
     ensures err { IfErr result (λ fault. (fault ≡ CommandFault.Write) ⊎ (fault ≡ CommandFault.NoMemory)) }
+    ensures grows { OnErr result (Grows (W.contents writer.old) (W.contents writer.new)) }
+    ensures refused { OnErr result (1 ≤ count_by is_refusal (outcome_answers outcome.now)) }
 {
-    match told {
-        Told::Nothing => Ok(()),
-        Told::Event { at: _, answer } => print_answer(alloc, writer, line, answer),
-        Told::Taken {
+    match outcome {
+        LineOutcome::Nothing => Ok(()),
+        LineOutcome::Event { at: _, answer } => print_answer(alloc, writer, line, answer),
+        LineOutcome::Taken {
             at: _,
             message: _,
             answer,
         } => print_answer(alloc, writer, line, answer),
-        Told::Pulled { at: _, pulled } => print_pulled(alloc, writer, line, pulled),
+        LineOutcome::Pulled { at: _, pulled } => print_pulled(alloc, writer, line, pulled),
     }
 }
 
@@ -107,6 +109,8 @@ fn print_pulled<W: Write>(
     ensures printed { OnOk result
         (Printed (W.contents writer.old) (answer_lines line (answers_of pulled.now)) (W.contents writer.new)) }
     ensures err { IfErr result (λ fault. (fault ≡ CommandFault.Write) ⊎ (fault ≡ CommandFault.NoMemory)) }
+    ensures grows { OnErr result (Grows (W.contents writer.old) (W.contents writer.new)) }
+    ensures refused { OnErr result (1 ≤ count_by is_refusal (answers_of pulled.now)) }
 {
     print_answer(alloc, writer, line, &pulled.offered)?;
     match &pulled.taken {
@@ -124,6 +128,8 @@ fn print_answer<W: Write>(
     ensures printed { OnOk result
         (Printed (W.contents writer.old) (answer_line line answer.now) (W.contents writer.new)) }
     ensures err { IfErr result (λ fault. (fault ≡ CommandFault.Write) ⊎ (fault ≡ CommandFault.NoMemory)) }
+    ensures grows { OnErr result (Grows (W.contents writer.old) (W.contents writer.new)) }
+    ensures refused { OnErr result (is_refusal answer.now ≡ true) }
 {
     match answer {
         Answer::Refused(refusal) => print_refused(alloc, writer, line, refusal),

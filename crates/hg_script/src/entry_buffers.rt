@@ -14,7 +14,7 @@ use std::mem;
 pub const USER: &[u8] = b"fleet";
 
 /// The room of an entry that is done with, for the next one.
-pub struct Spare {
+pub struct EntryBuffers {
     alloc: Global,
     // What they hold is of no account, since they are emptied before they are filled. An empty one has no room.
     user: Vec<u8>,
@@ -22,9 +22,9 @@ pub struct Spare {
 }
 
 // Whoever owns one calls this once, and is proved without a look at each collection in it.
-impl Drop for Spare {
+impl Drop for EntryBuffers {
     fn drop(self) {
-        let Spare {
+        let EntryBuffers {
             alloc: _,
             user: _,
             desc: _,
@@ -32,10 +32,10 @@ impl Drop for Spare {
     }
 }
 
-impl Spare {
+impl EntryBuffers {
     /// No room yet, which takes no memory.
-    pub fn new(alloc: Global) -> Spare {
-        Spare {
+    pub fn new(alloc: Global) -> EntryBuffers {
+        EntryBuffers {
             alloc,
             user: Vec::new(alloc),
             desc: Vec::new(alloc),

@@ -1,13 +1,13 @@
 use Rattle.std.proofs.lemmas.Result.{err_from_is_err_and}
 use Rattle.std.proofs.Common.{◌≡◌}
 use Rattle.hg_script.specs.declared.telling.Outcome.{Outcome}
-use Rattle.hg_script.specs.declared.telling.ToldFault.{ToldFault}
+use Rattle.hg_script.specs.declared.telling.NotedFault.{NotedFault}
 use Rattle.hg_script.specs.Commands.{Text}
 use Rattle.hg_script.specs.Events.{refusals}
 use Rattle.hg_script.specs.Printing.{WritesRun}
 use Rattle.hg_script.specs.Scripts.{IsRunTo}
 use Rattle.hg_script.proofs.EndingLemmas.{input_stop, script_of, stops_of, of_script}
-use Rattle.hg_script.proofs.telling.run_told.Goals as goal
+use Rattle.hg_script.proofs.telling.run_with_notes.Goals as goal
 
 pub returns-in_err-text-clause-stopped : goal.returns-in_err-text-clause-stopped
 returns-in_err-text-clause-stopped g c =
@@ -32,6 +32,6 @@ returns-clause-written g c =
 
 pub returns-clause-stopped : goal.returns-clause-stopped
 returns-clause-stopped g c =
-    stops_of _ (λ (told : ToldFault). told.fault) _ _ c.tell_text.result _ _
+    stops_of _ (λ (ended : NotedFault). ended.fault) _ _ c.tell_text.result _ _
     (script_of _ _ _ c.deref.ensures.value c.in_ok-text.ensures.limit c.in_ok-text.ensures.whole)
     c.tell_text.ensures.stopped

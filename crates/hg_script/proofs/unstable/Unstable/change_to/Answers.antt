@@ -2,7 +2,7 @@ use Rattle.hg_replica.specs.Content.{content_of}
 use Rattle.hg_replica.specs.Evolution.{IsOrphan, IsPhaseDivergent}
 use Rattle.hg_instab.specs.Instabilities.{IsContentDivergent}
 use Rattle.hg_script.proofs.UnstableLemmas.{same-kind, moved-as}
-use Rattle.hg_script.proofs.turned.Unstable.turned.Goals as goal
+use Rattle.hg_script.proofs.unstable.Unstable.change_to.Goals as goal
 
 pub returns : goal.returns
 returns c = λ f before.

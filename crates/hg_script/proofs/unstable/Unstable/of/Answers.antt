@@ -4,7 +4,7 @@ use Rattle.hg_replica.specs.Content.{content_of}
 use Rattle.hg_replica.specs.Evolution.{IsOrphan, IsPhaseDivergent}
 use Rattle.hg_instab.specs.Instabilities.{IsContentDivergent}
 use Rattle.hg_script.proofs.UnstableLemmas.{same-kind}
-use Rattle.hg_script.proofs.turned.Unstable.of.Goals as goal
+use Rattle.hg_script.proofs.unstable.Unstable.of.Goals as goal
 
 pub returns : goal.returns
 returns c =

@@ -7,8 +7,8 @@ use Rattle.hg_script.specs.declared.command.Command.{Command}
 use Rattle.hg_script.specs.declared.command.Command.TheVariants as command
 use Rattle.hg_script.specs.declared.command_fault.CommandFault.{CommandFault}
 use Rattle.hg_script.specs.declared.fleet.Fleet.{Fleet}
-use Rattle.hg_script.specs.declared.told.Told.{Told}
-use Rattle.hg_script.specs.declared.told.Told.TheVariants.{Nothing, Event, Taken, Pulled}
+use Rattle.hg_script.specs.declared.line_outcome.LineOutcome.{LineOutcome}
+use Rattle.hg_script.specs.declared.line_outcome.LineOutcome.TheVariants.{Nothing, Event, Taken, Pulled}
 use Rattle.hg_script.specs.Commands.{Text}
 use Rattle.hg_script.specs.Endings.{IsFaultOf}
 use Rattle.hg_script.specs.Events.{Trace, PeerAnswer, Ran}
@@ -18,11 +18,11 @@ use Rattle.hg_script.specs.Reports.{IsReport}
 use Rattle.hg_script.specs.Scripts.{Does, DoesLine, node_named}
 
 -- the answers to the events of a line
-abbrev pub told_answers : Told → List PeerAnswer
-told_answers Nothing = []
-told_answers (Event at answer) = answer ∷ []
-told_answers (Taken at message answer) = answer ∷ []
-told_answers (Pulled at pulled) = answers_of pulled
+abbrev pub outcome_answers : LineOutcome → List PeerAnswer
+outcome_answers Nothing = []
+outcome_answers (Event at answer) = answer ∷ []
+outcome_answers (Taken at message answer) = answer ∷ []
+outcome_answers (Pulled at pulled) = answers_of pulled
 
 -- what a command shows that asks for no event: a report, or whether two replicas are in the same state
 abbrev pub Shows : Fleet → Command → Trace → Text → Type 0
@@ -36,27 +36,27 @@ Shows f (command.Agree one other) t text =
 Shows f _ t text = text ≡ []
 
 -- the command is done and was answered so
-abbrev pub IsAskedOf : Fleet → Command → Told → Fleet → Type 0
-IsAskedOf old command told new = (t : Trace) × (told_answers told ≡ t.answers) × Does old command t new
+abbrev pub IsAskedOf : Fleet → Command → LineOutcome → Fleet → Type 0
+IsAskedOf old command outcome new = (t : Trace) × (outcome_answers outcome ≡ t.answers) × Does old command t new
 
 -- the same, and what the writer holds grew by what it shows
-abbrev pub IsAnswered : Fleet → Command → Told → Fleet → Option Text → Option Text → Type 0
-IsAnswered old command told new held holds =
-    (t : Trace) × (text : Text) × (told_answers told ≡ t.answers) × Does old command t new × Shows old command t text
-    × Printed held text holds
+abbrev pub IsAnswered : Fleet → Command → LineOutcome → Fleet → Option Text → Option Text → Type 0
+IsAnswered old command outcome new held holds =
+    (t : Trace) × (text : Text) × (outcome_answers outcome ≡ t.answers) × Does old command t new
+    × Shows old command t text × Printed held text holds
 
 -- the command of the line with this number is done and was answered so, and what the writer holds grew by what it
 -- prints
-abbrev pub IsDone : ℕ → Fleet → Command → Told → Fleet → Option Text → Option Text → Type 0
-IsDone line old command told new held holds =
-    (t : Trace) × (text : Text) × (told_answers told ≡ t.answers) × Does old command t new
+abbrev pub IsDone : ℕ → Fleet → Command → LineOutcome → Fleet → Option Text → Option Text → Type 0
+IsDone line old command outcome new held holds =
+    (t : Trace) × (text : Text) × (outcome_answers outcome ≡ t.answers) × Does old command t new
     × Prints line old command t text × Printed held text holds
 
 -- the line with this number is done and was answered so, and shows this, whatever it prints
-abbrev pub IsShown : Bool → ℕ → Fleet → Text → Told → Fleet → Text → Type 0
-IsShown alone number old line told new text =
+abbrev pub IsLineShown : Bool → ℕ → Fleet → Text → LineOutcome → Fleet → Text → Type 0
+IsLineShown alone number old line outcome new text =
     (t : Trace) × (output : Text) × DoesLine old line t new × PrintsLine number old line t output
-    × ShowsLine alone number old line t text × (told_answers told ≡ t.answers)
+    × ShowsLine alone number old line t text × (outcome_answers outcome ≡ t.answers)
 
 -- the command ended so, and what the world did until then is a run
 abbrev pub IsEndedBy : Fleet → Command → CommandFault → Fleet → Type 0

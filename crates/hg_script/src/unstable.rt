@@ -1,7 +1,8 @@
 //! What became unstable by a line at the node that it changed, and what ceased to be.
-ghost use Rattle.std.specs.Prelude.{IfOk};
+ghost use Rattle.std.specs.Prelude.{IfOk, IfSome, OnErr};
 ghost use Rattle.hg_replica.specs.Content.{Content, content_of};
-ghost use Rattle.hg_script.specs.Unstable.{AreTurned, AreUnstable};
+ghost use Rattle.hg_script.specs.Endings.{AreWanting};
+ghost use Rattle.hg_script.specs.Unstable.{AreUnstable, IsUnstableChange};
 
 use crate::command::Command;
 use crate::fleet::Fleet;
@@ -33,7 +34,7 @@ impl Drop for Unstable {
 
 /// What came to each instability, and what went from it.
 #[derive(Drop)]
-pub struct Turned {
+pub struct UnstableChange {
     pub orphan: Moved,
     pub phase_divergent: Moved,
     pub content_divergent: Moved,
@@ -53,12 +54,12 @@ impl Unstable {
     }
 
     /// What changed from these to what is unstable of the replica now. It costs both.
-    pub fn turned(&self, kept: &Kept) -> Result<Turned, AllocError>
-        ensures { IfOk result (λ turned. (before : Content) → AreUnstable before self.now
-            → AreTurned before (content_of kept.now.replica) turned) }
+    pub fn change_to(&self, kept: &Kept) -> Result<UnstableChange, AllocError>
+        ensures { IfOk result (λ change. (before : Content) → AreUnstable before self.now
+            → IsUnstableChange before (content_of kept.now.replica) change) }
     {
         let sets = kept.instabilities();
-        Ok(Turned {
+        Ok(UnstableChange {
             orphan: Moved::between(&self.orphan, sets.orphan())?,
             phase_divergent: Moved::between(&self.phase_divergent, sets.phase_divergent())?,
             content_divergent: Moved::between(&self.content_divergent, sets.content_divergent())?,
@@ -71,7 +72,9 @@ pub fn unstable_before(
     fleet: &Fleet,
     words: &[&[u8]],
     traces: bool,
-) -> Result<Option<Unstable>, AllocError> {
+) -> Result<Option<Unstable>, AllocError>
+    ensures { OnErr result (AreWanting fleet.now words.now) }
+{
     if !traces {
         return Ok(None);
     }
@@ -82,7 +85,9 @@ pub fn unstable_before(
 }
 
 // The replica that the line of these words is to change. Marks and offers change none.
-fn changed_by<'a>(fleet: &'a Fleet, words: &[&[u8]]) -> Option<&'a Kept> {
+fn changed_by<'a>(fleet: &'a Fleet, words: &[&[u8]]) -> Option<&'a Kept>
+    ensures { IfSome result (λ _. AreWanting fleet.now words.now) }
+{
     match read_command(words) {
         Ok(Some(Command::Operation(at, _))) => fleet.kept_of(at),
         Ok(Some(Command::Take(at, _))) => fleet.kept_of(at),
@@ -92,7 +97,7 @@ fn changed_by<'a>(fleet: &'a Fleet, words: &[&[u8]]) -> Option<&'a Kept> {
 }
 
 /// Appends what became unstable at the node of a place, and what ceased to be.
-pub fn push_turned(
+pub fn push_unstable_change(
     alloc: Global,
     fleet: &Fleet,
     at: usize,
@@ -101,8 +106,8 @@ pub fn push_turned(
 ) -> Result<(), AllocError> {
     match (before, fleet.kept_at(at)) {
         (Some(before), Some(kept)) => {
-            let turned = before.turned(kept)?;
-            push_each(&Scene { alloc, fleet, at }, &turned, text)
+            let change = before.change_to(kept)?;
+            push_each(&Scene { alloc, fleet, at }, &change, text)
         }
         _ => Ok(()),
     }
@@ -117,12 +122,16 @@ struct Scene<'a> {
 }
 
 // What came stands first, and each in the order of a report's words.
-fn push_each(scene: &Scene<'_>, turned: &Turned, text: &mut Vec<u8>) -> Result<(), AllocError> {
-    let Turned {
+fn push_each(
+    scene: &Scene<'_>,
+    change: &UnstableChange,
+    text: &mut Vec<u8>,
+) -> Result<(), AllocError> {
+    let UnstableChange {
         orphan,
         phase_divergent: phase,
         content_divergent: content,
-    } = turned;
+    } = change;
     push_some(scene, b", now orphan:", &orphan.came, text)?;
     push_some(scene, b", now phase-divergent:", &phase.came, text)?;
     push_some(scene, b", now content-divergent:", &content.came, text)?;
