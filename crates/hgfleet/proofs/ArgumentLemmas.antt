@@ -13,7 +13,7 @@ use Rattle.hgfleet.specs.Arguments.{ArgumentsAnswer, IsRun, IsWithinBounds, Name
 use Rattle.hgfleet.specs.Arguments.{program_at, race_numbers, reference}
 use Rattle.hgfleet.specs.declared.arguments.ArgumentFault.{ArgumentFault}
 use Rattle.hgfleet.specs.declared.arguments.Wanted.{Wanted}
-use Rattle.hgfleet.specs.declared.arguments.Wanted.TheVariants.{Run, RunTold, Race, Log, Show, Write, Why, Fate}
+use Rattle.hgfleet.specs.declared.arguments.Wanted.TheVariants.{Run, RunWithNotes, Race, Log, Show, Write, Why, Fate}
 use Rattle.hgfleet.specs.declared.arguments.Wanted.TheVariants.{Help, Version, Try, Compare, Check}
 
 pub at_help : (name : Text) → faults_at (name ∷ codes "--help" ∷ []) ≡ DisplayHelp ∷ []
@@ -137,7 +137,7 @@ second_alone (a ∷ b ∷ x ∷ xs) d l = absurd (omega (arith, l))
 pub answer_within : (words : List Text) (r : Result Wanted ArgumentFault) → ArgumentsAnswer words r
     → IfOk r IsWithinBounds
 answer_within words (Ok Run) h = tt
-answer_within words (Ok (RunTold explains traces is_strict)) h = tt
+answer_within words (Ok (RunWithNotes explains traces is_strict)) h = tt
 answer_within words (Ok (Race nodes rounds)) h = h.2
 answer_within words (Ok (Log nodes shows_hidden picture line)) h = tt
 answer_within words (Ok (Show form)) h = tt
@@ -146,7 +146,7 @@ answer_within words (Ok (Why nodes)) h = tt
 answer_within words (Ok (Fate labels)) h = tt
 answer_within words (Ok (Try trial)) h = tt
 answer_within words (Ok (Compare first second)) h = tt
-answer_within words (Ok (Check fills)) h = tt
+answer_within words (Ok (Check fills explains)) h = tt
 answer_within words (Ok (Help e)) h = tt
 answer_within words (Ok (Version e)) h = tt
 answer_within words (Err e) h = tt

@@ -12,7 +12,7 @@ use Rattle.hg_script.specs.ByLine.{PrintsEach}
 use Rattle.hg_script.specs.Scripts.{IsScriptOf}
 use Rattle.hgfleet.specs.declared.failure.Failure.{Failure}
 use Rattle.hgfleet.specs.declared.failure.Failure.TheVariants as failed
-use Rattle.hgfleet.specs.Checking.{EndsCheck, EndsWriting, IsCheck, IsPrinted, IsWritten, told_of}
+use Rattle.hgfleet.specs.Checking.{EndsCheck, EndsWriting, IsCheck, PrintsScript, IsCheckWritten, told_of}
 
 -- what was checked is the script whose lines print this
 pub record IsOf (text : Text) (outputs : List Text) (checked : Checked) : Type 0 where
@@ -23,10 +23,10 @@ pub record IsOf (text : Text) (outputs : List Text) (checked : Checked) : Type 0
 
 -- what was read and printed, where it is seen
 pub printed_of : (known : Option Text) (text seen : Text) (outputs shown : List (Vec ℕ Global)) → seen ≡ text
-    → shown ≡ outputs → IsScriptOf known text → PrintsEach text (texts outputs) → IsPrinted known seen (texts shown)
+    → shown ≡ outputs → IsScriptOf known text → PrintsEach text (texts outputs) → PrintsScript known seen (texts shown)
 printed_of known text seen outputs shown same alike script prints =
-    subst (λ (t : Text). IsPrinted known t (texts shown)) (sym same)
-    (subst (λ (os : List (Vec ℕ Global)). IsPrinted known text (texts os)) (sym alike) (script, prints))
+    subst (λ (t : Text). PrintsScript known t (texts shown)) (sym same)
+    (subst (λ (os : List (Vec ℕ Global)). PrintsScript known text (texts os)) (sym alike) (script, prints))
 
 -- it is told what the script is to be told of
 tells : (text : Text) (outputs : List Text) (checked : Checked) → IsOf text outputs checked
@@ -36,8 +36,8 @@ tells text outputs checked of_it =
     ∙ ap (λ (t : Text). account (count_by is_done (lines text)) (differing 1 (lines text) outputs) t) of_it.in_hunks
 
 pub check_done : (fills : Bool) (known held holds : Option Text) (text : Text) (outputs : List Text)
-    (checked : Checked) → IsPrinted known text outputs → IsOf text outputs checked
-    → IsWritten fills checked held holds → IsCheck fills known held holds
+    (checked : Checked) → PrintsScript known text outputs → IsOf text outputs checked
+    → IsCheckWritten fills checked held holds → IsCheck fills known held holds
 check_done true known held holds text outputs checked printed of_it written =
     (text, outputs, printed, subst (λ (t : Text). Appends held holds t) of_it.in_text written)
 check_done false known held holds text outputs checked printed of_it (none, written) = (
@@ -49,7 +49,7 @@ check_done false known held holds text outputs checked printed of_it (none, writ
 )
 
 pub check_ends : (fills : Bool) (known held holds : Option Text) (text : Text) (outputs : List Text)
-    (checked : Checked) → IsPrinted known text outputs → IsOf text outputs checked → (failure : Failure)
+    (checked : Checked) → PrintsScript known text outputs → IsOf text outputs checked → (failure : Failure)
     → EndsWriting fills checked held holds failure → EndsCheck fills known held holds failure
 check_ends fills known held holds text outputs checked printed of_it (failed.Run fault) ends = inr ends
 check_ends fills known held holds text outputs checked printed of_it (failed.Unmet count) (apart, is, some, written) = (
@@ -63,7 +63,7 @@ check_ends fills known held holds text outputs checked printed of_it (failed.Unm
     subst (λ (t : Text). Appends held holds t) (tells text outputs checked of_it) written,
   ),
 )
-check_ends fills known held holds text outputs checked printed of_it (failed.Told told) ends = absurd ends
+check_ends fills known held holds text outputs checked printed of_it (failed.Noted noted) ends = absurd ends
 check_ends fills known held holds text outputs checked printed of_it (failed.Refused count) ends = absurd ends
 check_ends fills known held holds text outputs checked printed of_it (failed.Show fault) ends = absurd ends
 check_ends fills known held holds text outputs checked printed of_it (failed.UnknownName name) ends = absurd ends
@@ -71,4 +71,4 @@ check_ends fills known held holds text outputs checked printed of_it (failed.Few
 check_ends fills known held holds text outputs checked printed of_it (failed.File name fault) ends = absurd ends
 check_ends fills known held holds text outputs checked printed of_it failed.NotTaken ends = absurd ends
 check_ends fills known held holds text outputs checked printed of_it failed.Differ ends = absurd ends
-check_ends fills known held holds text outputs checked printed of_it failed.Unread ends = absurd ends
+check_ends fills known held holds text outputs checked printed of_it failed.OutputClosed ends = absurd ends

@@ -4,6 +4,7 @@ mod BuilderLemmas
 mod CheckingLemmas
 mod CommandLemmas
 mod FileLemmas
+mod FlushLemmas
 mod NumberLemmas
 mod OptionLemmas
 mod PlaceLemmas

@@ -29,7 +29,7 @@ use Rattle.clap.specs.Walk.{walk_from}
 use Rattle.clap.specs.Walk.{walked, walked_from, with_default, word_met, is_pending}
 use Rattle.clap.specs.declared.builder.value_parser.ValueParser.TheVariants as vp
 use Rattle.clap.specs.declared.error.kind.ErrorKind.TheVariants as kind
-use Rattle.hgfleet.specs.Arguments.{NamesForms, Words, form_rule, name_rule, program_at}
+use Rattle.hgfleet.specs.Arguments.{NamesForms, Words, explain_rule, form_rule, name_rule, program_at}
 
 -- a choice between equals
 chosen : {X : Type 0} {A : Type 0} (h : Option A → X) (a b : A) (first : Bool) (rest : Option A)
@@ -374,6 +374,9 @@ module _ (f g : Words) (named_f : NamesForms f) (named_g : NamesForms g) where
   abbrev name_in : Rule
   name_in = with_index 2 (filled name_rule)
 
+  abbrev explain_in : Rule
+  explain_in = filled explain_rule
+
   abbrev no_shape : Shape
   no_shape = new_shape []
 
@@ -409,7 +412,8 @@ module _ (f g : Words) (named_f : NamesForms f) (named_g : NamesForms g) where
       (named_at p.0 4) (sub_at 0) (sub_at 1) (sub_at 2) (sub_at 3) (sub_at 4) (other_at 3) (other_at 4)
       (last_named p.0)
       (ap (λ (rows : List Row). Some (codes "show", rows)) (rows_after_alike (help_in ∷ []) [] p.1))
-      (ap (λ (rows : List Row). Some (codes "write", rows)) (rows_after_alike (name_in ∷ help_in ∷ []) [] p.1))
+      (ap (λ (rows : List Row). Some (codes "write", rows))
+      (rows_after_alike (name_in ∷ explain_in ∷ help_in ∷ []) [] p.1))
 
   entered_fault_alike : (stop : Option (Text × List Text))
       → entered_fault (built (program_at f)) stop ≡ entered_fault (built (program_at g)) stop
@@ -419,7 +423,7 @@ module _ (f g : Words) (named_f : NamesForms f) (named_g : NamesForms g) where
       (named_at p.0 1) (named_at p.0 2) (named_at p.0 3) (named_at p.0 4) (sub_at 0) (sub_at 1) (sub_at 2) (sub_at 3)
       (sub_at 4) (other_at 3) (other_at 4) (last_named p.0)
       (level_alike (help_in ∷ []) (sub_at 3) [] nothing_held p.1 false [])
-      (level_alike (name_in ∷ help_in ∷ []) (sub_at 4) [] nothing_held p.1 false [])
+      (level_alike (name_in ∷ explain_in ∷ help_in ∷ []) (sub_at 4) [] nothing_held p.1 false [])
 
   abbrev stop_at : List Text → Option (Text × List Text)
   stop_at words = stop_after (built (program_at f)).top.rules (names_of (built (program_at f))) (drop 1 words)

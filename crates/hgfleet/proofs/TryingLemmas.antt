@@ -48,13 +48,13 @@ pub unread_among : (names : List (String Global)) (i : ℕ) (d : String Global) 
     → IsUnread (string_bytes (get_or names i d)) failure → IsUnreadAmong names failure
 unread_among names i d (failed.File told fault) within is = (get_or names i d, Contains-get_or names i d within, is)
 unread_among names i d (failed.Run fault) within is = is
-unread_among names i d (failed.Told told) within is = absurd is
+unread_among names i d (failed.Noted noted) within is = absurd is
 unread_among names i d (failed.Refused count) within is = absurd is
 unread_among names i d (failed.Show fault) within is = absurd is
 unread_among names i d (failed.UnknownName name) within is = absurd is
 unread_among names i d (failed.FewLines count) within is = absurd is
 unread_among names i d (failed.Unmet count) within is = absurd is
-unread_among names i d failed.Unread within is = absurd is
+unread_among names i d failed.OutputClosed within is = absurd is
 unread_among names i d failed.NotTaken within is = absurd is
 unread_among names i d failed.Differ within is = absurd is
 
@@ -62,13 +62,13 @@ pub unread_ends_trial : (wanted : WantedTrial) (held : Option Text) (failure : F
     → IsUnreadAmong wanted.files.items failure → EndsTrial wanted held held failure
 unread_ends_trial wanted held (failed.File told fault) is = inl (is, refl)
 unread_ends_trial wanted held (failed.Run fault) is = inr (inr is)
-unread_ends_trial wanted held (failed.Told told) is = absurd is
+unread_ends_trial wanted held (failed.Noted noted) is = absurd is
 unread_ends_trial wanted held (failed.Refused count) is = absurd is
 unread_ends_trial wanted held (failed.Show fault) is = absurd is
 unread_ends_trial wanted held (failed.UnknownName name) is = absurd is
 unread_ends_trial wanted held (failed.FewLines count) is = absurd is
 unread_ends_trial wanted held (failed.Unmet count) is = absurd is
-unread_ends_trial wanted held failed.Unread is = absurd is
+unread_ends_trial wanted held failed.OutputClosed is = absurd is
 unread_ends_trial wanted held failed.NotTaken is = absurd is
 unread_ends_trial wanted held failed.Differ is = absurd is
 
@@ -76,13 +76,13 @@ pub first_ends : (first second : Text) (held : Option Text) (failure : Failure) 
     → EndsComparison first second held held failure
 first_ends first second held (failed.File told fault) is = (inl is, refl)
 first_ends first second held (failed.Run fault) is = inr (inr is)
-first_ends first second held (failed.Told told) is = absurd is
+first_ends first second held (failed.Noted noted) is = absurd is
 first_ends first second held (failed.Refused count) is = absurd is
 first_ends first second held (failed.Show fault) is = absurd is
 first_ends first second held (failed.UnknownName name) is = absurd is
 first_ends first second held (failed.FewLines count) is = absurd is
 first_ends first second held (failed.Unmet count) is = absurd is
-first_ends first second held failed.Unread is = absurd is
+first_ends first second held failed.OutputClosed is = absurd is
 first_ends first second held failed.NotTaken is = absurd is
 first_ends first second held failed.Differ is = absurd is
 
@@ -90,13 +90,13 @@ pub second_ends : (first second : Text) (held : Option Text) (failure : Failure)
     → EndsComparison first second held held failure
 second_ends first second held (failed.File told fault) is = (inr is, refl)
 second_ends first second held (failed.Run fault) is = inr (inr is)
-second_ends first second held (failed.Told told) is = absurd is
+second_ends first second held (failed.Noted noted) is = absurd is
 second_ends first second held (failed.Refused count) is = absurd is
 second_ends first second held (failed.Show fault) is = absurd is
 second_ends first second held (failed.UnknownName name) is = absurd is
 second_ends first second held (failed.FewLines count) is = absurd is
 second_ends first second held (failed.Unmet count) is = absurd is
-second_ends first second held failed.Unread is = absurd is
+second_ends first second held failed.OutputClosed is = absurd is
 second_ends first second held failed.NotTaken is = absurd is
 second_ends first second held failed.Differ is = absurd is
 
@@ -105,13 +105,13 @@ pub compared_ends : (first second : Text) (held holds : Option Text) (failure : 
     → EndsCompared held holds failure → EndsComparison first second held holds failure
 compared_ends first second held holds (failed.File told fault) h = absurd h
 compared_ends first second held holds (failed.Run fault) h = h
-compared_ends first second held holds (failed.Told told) h = absurd h
+compared_ends first second held holds (failed.Noted noted) h = absurd h
 compared_ends first second held holds (failed.Refused count) h = absurd h
 compared_ends first second held holds (failed.Show fault) h = absurd h
 compared_ends first second held holds (failed.UnknownName name) h = absurd h
 compared_ends first second held holds (failed.FewLines count) h = absurd h
 compared_ends first second held holds (failed.Unmet count) h = absurd h
-compared_ends first second held holds failed.Unread h = absurd h
+compared_ends first second held holds failed.OutputClosed h = absurd h
 compared_ends first second held holds failed.NotTaken h = h
 compared_ends first second held holds failed.Differ h = h
 
@@ -136,13 +136,13 @@ unwritten_to : (wanted : WantedTrial) (target : Option (String Global)) (held ho
 unwritten_to wanted (Some name) held holds (failed.File told fault) e is answered =
     inr (ap (option_map string_bytes) e ∙ ap Some (sym is), answered)
 unwritten_to wanted (Some name) held holds (failed.Run fault) e is answered = inr (inr is)
-unwritten_to wanted (Some name) held holds (failed.Told told) e is answered = absurd is
+unwritten_to wanted (Some name) held holds (failed.Noted noted) e is answered = absurd is
 unwritten_to wanted (Some name) held holds (failed.Refused count) e is answered = absurd is
 unwritten_to wanted (Some name) held holds (failed.Show fault) e is answered = absurd is
 unwritten_to wanted (Some name) held holds (failed.UnknownName unknown) e is answered = absurd is
 unwritten_to wanted (Some name) held holds (failed.FewLines count) e is answered = absurd is
 unwritten_to wanted (Some name) held holds (failed.Unmet count) e is answered = absurd is
-unwritten_to wanted (Some name) held holds failed.Unread e is answered = absurd is
+unwritten_to wanted (Some name) held holds failed.OutputClosed e is answered = absurd is
 unwritten_to wanted (Some name) held holds failed.NotTaken e is answered = absurd is
 unwritten_to wanted (Some name) held holds failed.Differ e is answered = absurd is
 unwritten_to wanted None held holds failure e is answered = absurd is

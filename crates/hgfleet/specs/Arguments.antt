@@ -18,7 +18,7 @@ use Rattle.hg_show.specs.declared.form.Form.TheVariants.{Store, Roots, Message}
 use Rattle.hgfleet.specs.declared.arguments.Picture.{Picture}
 use Rattle.hgfleet.specs.declared.arguments.Picture.TheVariants as pictures
 use Rattle.hgfleet.specs.declared.arguments.Wanted.{Wanted}
-use Rattle.hgfleet.specs.declared.arguments.Wanted.TheVariants.{Run, RunTold, Race, Log, Show, Write, Why, Fate}
+use Rattle.hgfleet.specs.declared.arguments.Wanted.TheVariants.{Run, RunWithNotes, Race, Log, Show, Write, Why, Fate}
 use Rattle.hgfleet.specs.declared.arguments.Wanted.TheVariants.{Help, Version, Try, Compare, Check}
 use Rattle.hgfleet.specs.CheckArguments.{check_app}
 use Rattle.hgfleet.specs.TryArguments.{TrialOptions, compare_app, files_compared, flag_given, flag_rule, try_app}
@@ -49,6 +49,10 @@ abbrev pub run : App
 run = with_rule (with_rule (with_rule (new_app (codes "run")) (flag_rule (codes "explain")))
     (flag_rule (codes "trace"))) (flag_rule (codes "strict"))
 
+-- a flag that is taken where a script is read
+abbrev pub explain_rule : Rule
+explain_rule = flag_rule (codes "explain")
+
 -- the names of nodes, any number of them
 abbrev pub nodes_rule : Rule
 nodes_rule = record (new_rule (codes "nodes")) {
@@ -57,29 +61,29 @@ nodes_rule = record (new_rule (codes "nodes")) {
 }
 
 -- a script has no more lines than it may have bytes
-abbrev pub line_limit : ℕ
-line_limit = 1048576
+abbrev pub line_number_limit : ℕ
+line_number_limit = 1048576
 
 -- an option `--at LINE`
 abbrev pub line_rule : Rule
-line_rule = number_rule (codes "at") 1 line_limit
+line_rule = number_rule (codes "at") 1 line_number_limit
 
 -- `log` with its flags
 abbrev pub log_flags : App
-log_flags = with_rule (with_rule (with_rule (new_app (codes "log")) (flag_rule (codes "hidden")))
-    (flag_rule (codes "dot"))) (flag_rule (codes "json"))
+log_flags = with_rule (with_rule (with_rule (with_rule (new_app (codes "log")) (flag_rule (codes "hidden")))
+    (flag_rule (codes "dot"))) (flag_rule (codes "json"))) explain_rule
 
 -- `log` with its flags, the number of a line, and the names of nodes
 abbrev pub log : App
 log = with_rule (with_rule log_flags line_rule) nodes_rule
 
--- `why` with the names of nodes
+-- `why` with its flag and the names of nodes
 abbrev pub why : App
-why = with_rule (new_app (codes "why")) nodes_rule
+why = with_rule (with_rule (new_app (codes "why")) explain_rule) nodes_rule
 
--- `fate` with labels
+-- `fate` with its flag and labels
 abbrev pub fate : App
-fate = with_rule (new_app (codes "fate")) (words_rule (codes "labels"))
+fate = with_rule (with_rule (new_app (codes "fate")) explain_rule) (words_rule (codes "labels"))
 
 -- references to words, as the parser has them
 abbrev pub Words : Type 0
@@ -101,12 +105,13 @@ form_rule words = record (new_rule (codes "form")) { value_names = 1; required =
 abbrev pub name_rule : Rule
 name_rule = record (new_rule (codes "name")) { value_names = 1; required = true }
 
--- `show` with a form, and `write` with a form and a name
+-- `show` with a form, and `write` with a form, a name and its flag
 abbrev pub show_at : Words → App
 show_at words = with_rule (new_app (codes "show")) (form_rule words)
 
 abbrev pub write_at : Words → App
-write_at words = with_rule (with_rule (new_app (codes "write")) (form_rule words)) name_rule
+write_at words =
+    with_rule (with_rule (with_rule (new_app (codes "write")) (form_rule words)) name_rule) explain_rule
 
 -- `hgfleet` with its version, which requires a command
 abbrev pub program_alone : App
@@ -219,7 +224,7 @@ options_of names shows_hidden None line = None
 
 -- the number of the line that is given for a log
 abbrev pub line_given : List Row → Option ℕ
-line_given = number_given (codes "at") 1 line_limit
+line_given = number_given (codes "at") 1 line_number_limit
 
 -- what is given for a log, none where two pictures are asked for
 abbrev pub log_given : List Row → Option LogOptions
@@ -272,14 +277,16 @@ compare_met (Some met) = if bytes_eq met.0 (codes "compare") then files_compared
 unfoldable pub compared_files : List Text → Option (Text × Text)
 compared_files words = compare_met (subcommand_of program words)
 
--- whether a check is to fill the script in, where `check` is the command that was met
-abbrev pub check_met : Option (Text × List Row) → Option Bool
+-- whether a check is to fill the script in, and whether it says why lines were refused, where `check` is the command
+-- that was met
+abbrev pub check_met : Option (Text × List Row) → Option (Bool × Bool)
 check_met None = None
-check_met (Some met) = if bytes_eq met.0 (codes "check") then Some (flag_given (codes "write") met.1) else None
+check_met (Some met) = if bytes_eq met.0 (codes "check")
+    then Some (flag_given (codes "write") met.1, flag_given (codes "explain") met.1) else None
 
 -- what words without a fault say of that, none where they ask for no check
-unfoldable pub check_fills : List Text → Option Bool
-check_fills words = check_met (subcommand_of program words)
+unfoldable pub check_flags : List Text → Option (Bool × Bool)
+check_flags words = check_met (subcommand_of program words)
 
 -- the form that the word names
 abbrev pub form_named : Text → Option Form
@@ -338,10 +345,10 @@ IsRaceOf numbers (Some (Race nodes rounds)) = numbers ≡ Some (nodes, rounds)
 IsRaceOf numbers None = numbers ≡ None
 IsRaceOf numbers _ = ⊥
 
-abbrev pub IsRunTold : Option RunNotes → Option Wanted → Type 0
-IsRunTold notes (Some (RunTold explains traces is_strict)) = notes ≡ Some (explains, traces, is_strict)
-IsRunTold notes None = notes ≡ None
-IsRunTold notes _ = ⊥
+abbrev pub IsRunWithNotesOf : Option RunNotes → Option Wanted → Type 0
+IsRunWithNotesOf notes (Some (RunWithNotes explains traces is_strict)) = notes ≡ Some (explains, traces, is_strict)
+IsRunWithNotesOf notes None = notes ≡ None
+IsRunWithNotesOf notes _ = ⊥
 
 abbrev pub IsLogOf : Option LogOptions → Option Wanted → Type 0
 IsLogOf options (Some (Log nodes shows_hidden picture line)) =
@@ -367,9 +374,9 @@ IsCompareOf files (Some (Compare first second)) = files ≡ Some (string_bytes f
 IsCompareOf files None = files ≡ None
 IsCompareOf files _ = ⊥
 
-abbrev pub IsCheckOf : Bool → Option Wanted → Type 0
-IsCheckOf flag (Some (Check fills)) = flag ≡ fills
-IsCheckOf flag _ = ⊥
+abbrev pub IsCheckOf : Bool → Bool → Option Wanted → Type 0
+IsCheckOf writes says_why (Some (Check fills explains)) = (writes ≡ fills) × (says_why ≡ explains)
+IsCheckOf writes says_why _ = ⊥
 
 abbrev pub IsShowOf : Option Form → Option Wanted → Type 0
 IsShowOf form (Some (Show shown)) = form ≡ Some shown
@@ -383,7 +390,7 @@ IsWriteOf given _ = ⊥
 
 -- the command that was met, with its rows, asks for this; none where it asks for nothing more than a run
 abbrev pub MeetsWanted : Option (Text × List Row) → Option Wanted → Type 0
-MeetsWanted met (Some (RunTold explains traces is_strict)) = run_met met ≡ Some (explains, traces, is_strict)
+MeetsWanted met (Some (RunWithNotes explains traces is_strict)) = run_met met ≡ Some (explains, traces, is_strict)
 MeetsWanted met (Some (Race nodes rounds)) = race_met met ≡ Some (nodes, rounds)
 MeetsWanted met (Some (Log nodes shows_hidden picture line)) =
     log_met met ≡ Some (texts_of nodes.items, shows_hidden, picture, line)
@@ -393,7 +400,7 @@ MeetsWanted met (Some (Why nodes)) = why_met met ≡ Some (texts_of nodes.items)
 MeetsWanted met (Some (Fate labels)) = fate_met met ≡ Some (texts_of labels.items)
 MeetsWanted met (Some (Try trial)) = try_met met ≡ Some (options_of_trial trial)
 MeetsWanted met (Some (Compare first second)) = compare_met met ≡ Some (string_bytes first, string_bytes second)
-MeetsWanted met (Some (Check fills)) = check_met met ≡ Some fills
+MeetsWanted met (Some (Check fills explains)) = check_met met ≡ Some (fills, explains)
 MeetsWanted met (Some _) = ⊥
 MeetsWanted met None =
     (run_met met ≡ None) × (race_met met ≡ None) × (log_met met ≡ None) × (show_met met ≡ None)
@@ -406,7 +413,7 @@ abbrev pub GivesNothing : List Text → Type 0
 GivesNothing words =
     (run_notes words ≡ None) × (race_numbers words ≡ None) × (log_options words ≡ None) × (shown_form words ≡ None)
     × (written_form words ≡ None) × (why_names words ≡ None) × (fate_labels words ≡ None)
-    × (trial_options words ≡ None) × (compared_files words ≡ None) × (check_fills words ≡ None)
+    × (trial_options words ≡ None) × (compared_files words ≡ None) × (check_flags words ≡ None)
 
 -- the parser finds no fault, and what is wanted is what the command that the words name asks for; or it tells a fault
 -- of the words, or that memory ran out
@@ -427,7 +434,7 @@ IsMistake e = (kind_of e ≢ DisplayHelp) × (kind_of e ≢ DisplayVersion) × (
 -- these, as a log that two pictures are asked of, or a trial with flags that exclude each other
 abbrev pub ArgumentsAnswer : List Text → Result Wanted ArgumentFault → Type 0
 ArgumentsAnswer words (Ok Run) = IsRun words
-ArgumentsAnswer words (Ok (RunTold explains traces is_strict)) =
+ArgumentsAnswer words (Ok (RunWithNotes explains traces is_strict)) =
     (faults_at words ≡ []) × (run_notes words ≡ Some (explains, traces, is_strict))
 ArgumentsAnswer words (Ok (Race nodes rounds)) =
     (faults_at words ≡ []) × (race_numbers words ≡ Some (nodes, rounds)) × IsRaceSize nodes rounds
@@ -443,7 +450,8 @@ ArgumentsAnswer words (Ok (Try trial)) =
     (faults_at words ≡ []) × (trial_options words ≡ Some (options_of_trial trial))
 ArgumentsAnswer words (Ok (Compare first second)) =
     (faults_at words ≡ []) × (compared_files words ≡ Some (string_bytes first, string_bytes second))
-ArgumentsAnswer words (Ok (Check fills)) = (faults_at words ≡ []) × (check_fills words ≡ Some fills)
+ArgumentsAnswer words (Ok (Check fills explains)) =
+    (faults_at words ≡ []) × (check_flags words ≡ Some (fills, explains))
 ArgumentsAnswer words (Ok (Help e)) = IsAmong DisplayHelp (faults_at words)
 ArgumentsAnswer words (Ok (Version e)) = IsAmong DisplayVersion (faults_at words)
 ArgumentsAnswer words (Err (BadArguments e)) = ¬ (IsRun words) × IsMistake e

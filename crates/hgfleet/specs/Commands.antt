@@ -33,7 +33,7 @@ use Rattle.hg_show.specs.declared.form.Form.TheVariants.{Store, Roots, Message}
 use Rattle.hg_show.specs.declared.fault.ShowFault.TheVariants as shown
 use Rattle.hg_show.specs.Answers.{EndsInput, IsInput, ShowAnswer, fault_in}
 use Rattle.hg_show.specs.Faults.{status_of as show_status}
-use Rattle.hg_show.specs.Printing.{IsShown}
+use Rattle.hg_show.specs.Printing.{AreBytesShown}
 use Rattle.hg_view.specs.Kept.{KeptValue}
 use Rattle.hg_why.specs.declared.remedy.Remedy.TheVariants.{ScriptLine}
 use Rattle.hg_why.specs.FateLines.{IsFateLine, IsKnown}
@@ -42,7 +42,7 @@ use Rattle.hgfleet.specs.declared.arguments.Picture.{Picture}
 use Rattle.hgfleet.specs.declared.arguments.Picture.TheVariants as pictures
 use Rattle.hgfleet.specs.declared.arguments.Wanted.{Wanted}
 use Rattle.hgfleet.specs.declared.arguments.Wanted.TheVariants as wanted
-use Rattle.hgfleet.specs.declared.arguments.Wanted.TheVariants.{Run, RunTold, Race, Show, Write, Why, Fate}
+use Rattle.hgfleet.specs.declared.arguments.Wanted.TheVariants.{Run, RunWithNotes, Race, Show, Write, Why, Fate}
 use Rattle.hgfleet.specs.declared.arguments.Wanted.TheVariants.{Check, Compare, Help, Try, Version}
 use Rattle.hgfleet.specs.Trying.{EndsComparison, EndsTrial, IsComparison, IsTakenTrial}
 use Rattle.hgfleet.specs.declared.commands.Overview.{Overview}
@@ -52,18 +52,18 @@ use Rattle.hgfleet.specs.declared.drawing.Drawing.TheVariants as drawn
 use Rattle.hgfleet.specs.declared.drawing.Drawing.TheVariants.{Log}
 use Rattle.hgfleet.specs.declared.failure.Failure.{Failure}
 use Rattle.hgfleet.specs.declared.failure.Failure.TheVariants as failed
-use Rattle.hgfleet.specs.declared.failure.Failure.TheVariants.{Told, Refused, UnknownName, Unread, Differ, File}
-use Rattle.hgfleet.specs.declared.failure.Failure.TheVariants.{FewLines, NotTaken, Unmet}
+use Rattle.hgfleet.specs.declared.failure.Failure.TheVariants.{Noted, Refused, UnknownName, OutputClosed, Differ}
+use Rattle.hgfleet.specs.declared.failure.Failure.TheVariants.{File, FewLines, NotTaken, Unmet}
 use Rattle.hgfleet.specs.Arguments.{texts_of}
 use Rattle.hgfleet.specs.Checking.{EndsCheck, IsCheck}
-use Rattle.hgfleet.specs.Drawings.{IsDrawing}
+use Rattle.hgfleet.specs.Drawings.{IsDrawing, gap_behind}
 
 -- ---- why a command ends early
 
 -- the exit status: 3 for want of memory, otherwise 1
 abbrev pub failure_status : Failure → ℕ
 failure_status (failed.Run fault) = run_status fault
-failure_status (Told told) = run_status told.fault
+failure_status (Noted noted) = run_status noted.fault
 failure_status (Refused count) = 1
 failure_status (failed.Show fault) = show_status fault
 failure_status (UnknownName name) = 1
@@ -72,7 +72,7 @@ failure_status (File name fault) = 1
 failure_status NotTaken = 1
 failure_status Differ = 1
 failure_status (Unmet count) = 1
-failure_status Unread = 1
+failure_status OutputClosed = 1
 
 -- a write failed, or memory was wanting
 abbrev pub IsOutputFailure : Failure → Type 0
@@ -81,7 +81,7 @@ IsOutputFailure failure = (failure ≡ failed.Run run.Write) ⊎ (failure ≡ fa
 -- a text couldn't be written
 abbrev pub IsWriteFailure : Failure → Type 0
 IsWriteFailure (failed.Run fault) = fault ≡ run.Write
-IsWriteFailure (Told told) = told.fault ≡ run.Write
+IsWriteFailure (Noted noted) = noted.fault ≡ run.Write
 IsWriteFailure (failed.Show fault) = fault ≡ shown.Write
 IsWriteFailure _ = ⊥
 
@@ -100,24 +100,30 @@ IsDrawn fleet drawing name text =
     MatchOption (node_named fleet name) (text ≡ [])
     (λ kept. IsDrawing drawing name kept text)
 
--- the drawings of the nodes of these names, in their order
+-- the drawings of the nodes of these names, in their order, behind another one, with what stands between them
+abbrev pub AreDrawnBehind : Fleet → Drawing → Text → List Text → Text → Type 0
+AreDrawnBehind fleet drawing before [] text = text ≡ []
+AreDrawnBehind fleet drawing before (name ∷ names) text =
+    (first : Text) × (others : Text) × IsDrawn fleet drawing name first
+    × AreDrawnBehind fleet drawing first names others × (text ≡ gap_behind drawing before ++ (first ++ others))
+
 abbrev pub AreDrawn : Fleet → Drawing → List Text → Text → Type 0
-AreDrawn fleet drawing names text = ArePieces (IsDrawn fleet drawing) names text
+AreDrawn fleet drawing names text = AreDrawnBehind fleet drawing [] names text
 
 -- the node of this name with what it holds, if there is one
-abbrev pub state_of : Fleet → Text → List NodeState
-state_of fleet name = option_map_or (λ kept. (name, kept) ∷ []) (node_named fleet name) []
+abbrev pub node_state_of : Fleet → Text → List NodeState
+node_state_of fleet name = option_map_or (λ kept. (name, kept) ∷ []) (node_named fleet name) []
 
 -- the nodes of these names that there are, in their order
-abbrev pub states_of : Fleet → List Text → List NodeState
-states_of fleet [] = []
-states_of fleet (name ∷ names) = state_of fleet name ++ states_of fleet names
+abbrev pub node_states_of : Fleet → List Text → List NodeState
+node_states_of fleet [] = []
+node_states_of fleet (name ∷ names) = node_state_of fleet name ++ node_states_of fleet names
 
 -- the drawings of the nodes of these names, or the graph or the array of all of them
 abbrev pub AreShown : Fleet → Overview → List Text → Text → Type 0
 AreShown fleet (Each drawing) names text = AreDrawn fleet drawing names text
-AreShown fleet (Graph shows_hidden) names text = IsGraphOf shows_hidden (states_of fleet names) text
-AreShown fleet (Array shows_hidden) names text = IsArray shows_hidden (states_of fleet names) text
+AreShown fleet (Graph shows_hidden) names text = IsGraphOf shows_hidden (node_states_of fleet names) text
+AreShown fleet (Array shows_hidden) names text = IsArray shows_hidden (node_states_of fleet names) text
 
 -- the names that are given, or those of all nodes where none is
 abbrev pub drawn_names : Fleet → List Text → List Text
@@ -200,14 +206,14 @@ abbrev pub notes_of : Bool → Bool → Notes
 notes_of explains traces = record { explains = explains; traces = traces; refusals_alone = false }
 
 -- the script was run with these notes, and so many of its lines were refused
-abbrev pub IsRunNoted : Notes → ℕ → Option Text → Option Text → Option Text → Type 0
-IsRunNoted notes refused known held holds =
+abbrev pub RunsWithNotes : Notes → ℕ → Option Text → Option Text → Option Text → Type 0
+RunsWithNotes notes refused known held holds =
     (fleet : Fleet) × IsLeftFleet known fleet × WritesCounted notes known fleet.world refused held holds
 
 -- the same, where none was if that is strict
-abbrev pub IsNoted : Bool → Notes → Option Text → Option Text → Option Text → Type 0
-IsNoted is_strict notes known held holds =
-    (refused : ℕ) × IsRunNoted notes refused known held holds × (is_strict ≡ true → refused ≡ 0)
+abbrev pub IsDoneWithNotes : Bool → Notes → Option Text → Option Text → Option Text → Type 0
+IsDoneWithNotes is_strict notes known held holds =
+    (refused : ℕ) × RunsWithNotes notes refused known held holds × (is_strict ≡ true → refused ≡ 0)
 
 -- of what the script leaves, which has nodes of these names, those are shown, or all where none is named
 abbrev pub DrawsNodes : List (String Global) → Overview → Option Text → Option Text → Option Text → Text → Text
@@ -249,64 +255,80 @@ WritesForm form name known held holds before after =
     (fleet : Fleet) × (text : Text) × IsLeftFleet known fleet × TellsRefused known fleet before after
     × IsFormOf fleet form name text × Appends held holds text
 
+-- a script was checked; where it is to be explained, what is told grew by why its lines were refused
+abbrev pub DoesCheck : Bool → Bool → Option Text → Option Text → Option Text → Text → Text → Type 0
+DoesCheck false fills known held holds before after = IsCheck fills known held holds
+DoesCheck true fills known held holds before after =
+    (text : Text) × (world : Snapshot KeptValue) × (refused : ℕ) × IsScriptOf known text
+    × WritesCounted refusals_told (Some text) world refused (Some before) (Some after)
+    × IsCheck fills (Some text) held holds
+
 -- what is wanted is done, with colours or without: the script, or the bytes, is what was to be read, where that is
 -- known, and what was held by the writer, where that is known, grew by what came of it; and what is told of refused
 -- lines grew from one text to the other
-abbrev pub IsDone : Wanted → Bool → Option Text → Option Text → Option Text → Text → Text → Type 0
-IsDone Run is_coloured known held holds before after =
+abbrev pub DoesWanted : Wanted → Bool → Option Text → Option Text → Option Text → Text → Text → Type 0
+DoesWanted Run is_coloured known held holds before after =
     (world : Snapshot KeptValue) × WritesScript no_notes known world held holds
-IsDone (RunTold explains traces is_strict) is_coloured known held holds before after =
-    IsNoted is_strict (notes_of explains traces) known held holds
-IsDone (Race nodes rounds) is_coloured known held holds before after =
+DoesWanted (RunWithNotes explains traces is_strict) is_coloured known held holds before after =
+    IsDoneWithNotes is_strict (notes_of explains traces) known held holds
+DoesWanted (Race nodes rounds) is_coloured known held holds before after =
     (written : ℕ) × (read_back : ℕ) × (agreeing : ℕ) × IsOfPairs nodes agreeing
     × Appends held holds (race_lines nodes rounds written read_back agreeing)
-IsDone (wanted.Log nodes shows_hidden picture line) is_coloured known held holds before after =
+DoesWanted (wanted.Log nodes shows_hidden picture line) is_coloured known held holds before after =
     DrawsUpTo line nodes.items (overview_of shows_hidden is_coloured picture) known held holds before after
-IsDone (Why nodes) is_coloured known held holds before after =
+DoesWanted (Why nodes) is_coloured known held holds before after =
     DrawsNodes nodes.items (Each (drawn.Why ScriptLine)) known held holds before after
-IsDone (Fate labels) is_coloured known held holds before after =
+DoesWanted (Fate labels) is_coloured known held holds before after =
     TellsFates labels.items known held holds before after
-IsDone (Show form) is_coloured known held holds before after =
-    (bytes : Text) × (text : Text) × IsInput known bytes × IsShown form bytes text × Appends held holds text
-IsDone (Write form name) is_coloured known held holds before after =
+DoesWanted (Show form) is_coloured known held holds before after =
+    (bytes : Text) × (text : Text) × IsInput known bytes × AreBytesShown form bytes text × Appends held holds text
+DoesWanted (Write form name) is_coloured known held holds before after =
     WritesForm form (string_bytes name) known held holds before after
-IsDone (Try trial) is_coloured known held holds before after = IsTakenTrial trial held holds
-IsDone (Compare first second) is_coloured known held holds before after = IsComparison (Some true) held holds
-IsDone (Check fills) is_coloured known held holds before after = IsCheck fills known held holds
-IsDone (Help error) is_coloured known held holds before after = Unit {0}
-IsDone (Version error) is_coloured known held holds before after = Unit {0}
+DoesWanted (Try trial) is_coloured known held holds before after = IsTakenTrial trial held holds
+DoesWanted (Compare first second) is_coloured known held holds before after = IsComparison (Some true) held holds
+DoesWanted (Check fills explains) is_coloured known held holds before after =
+    DoesCheck explains fills known held holds before after
+DoesWanted (Help text) is_coloured known held holds before after = Appends held holds (string_bytes text)
+DoesWanted (Version text) is_coloured known held holds before after = Appends held holds (string_bytes text)
 
--- only of a script whose own lines aren't printed is told why lines were refused
-abbrev pub IsUntold : Wanted → Text → Text → Type 0
-IsUntold (wanted.Log nodes shows_hidden picture line) before after = Unit {0}
-IsUntold (Why nodes) before after = Unit {0}
-IsUntold (Fate labels) before after = Unit {0}
-IsUntold (Write form name) before after = Unit {0}
-IsUntold _ before after = after ≡ before
+-- only of a script whose own lines aren't printed is told why lines were refused, of one that is checked where that is
+-- asked for
+abbrev pub LeavesRefusals : Wanted → Text → Text → Type 0
+LeavesRefusals (wanted.Log nodes shows_hidden picture line) before after = Unit {0}
+LeavesRefusals (Why nodes) before after = Unit {0}
+LeavesRefusals (Fate labels) before after = Unit {0}
+LeavesRefusals (Write form name) before after = Unit {0}
+LeavesRefusals (Check fills explains) before after = explains ≡ false → after ≡ before
+LeavesRefusals _ before after = after ≡ before
 
 -- ---- why it ends early
 
--- there are no keys for a script, a write failed, or memory was wanting
+-- a read or a write failed, or memory was wanting
 abbrev pub IsStreamFault : RunFault → Type 0
 IsStreamFault fault = (fault ≡ Read) ⊎ (fault ≡ run.Write) ⊎ (fault ≡ NoMemory)
 
 -- a run with these notes ends so: there are no keys for it; the script was stopped; or it was done, is strict, and so
 -- many of its lines were refused
-abbrev pub EndsNoted : Bool → Notes → Option Text → Option Text → Option Text → Failure → Type 0
-EndsNoted is_strict notes known held holds (failed.Run fault) = (fault ≡ Read) × (holds ≡ held)
-EndsNoted is_strict notes known held holds (Told told) = IsStop notes known told.fault held holds
-EndsNoted is_strict notes known held holds (Refused count) =
-    (is_strict ≡ true) × (1 ≤ count) × IsRunNoted notes count known held holds
-EndsNoted is_strict notes known held holds _ = ⊥
+abbrev pub EndsWithNotes : Bool → Notes → Option Text → Option Text → Option Text → Failure → Type 0
+EndsWithNotes is_strict notes known held holds (failed.Run fault) = (fault ≡ Read) × (holds ≡ held)
+EndsWithNotes is_strict notes known held holds (Noted noted) = IsStop notes known noted.fault held holds
+EndsWithNotes is_strict notes known held holds (Refused count) =
+    (is_strict ≡ true) × (1 ≤ count) × RunsWithNotes notes count known held holds
+EndsWithNotes is_strict notes known held holds _ = ⊥
+
+-- the script whose refusals are told in a text was stopped so; or there was no memory for the text
+abbrev pub IsToldStop : Option Text → RunFault → Text → Text → Type 0
+IsToldStop known fault before after = IsStop refusals_told known fault (Some before) (Some after) ⊎ (fault ≡ NoMemory)
 
 -- a command over what a script leaves ends so: the script was stopped, and until then it was told why lines were
 -- refused; or there are no keys, a write failed or memory was wanting; or the script leaves nothing of a name. Only
 -- where a write failed, or memory was wanting, may something be written
 abbrev pub EndsAfterScript : Option Text → (Fleet → Text → Type 0) → Option Text → Option Text → Text → Text → Failure
     → Type 0
-EndsAfterScript known IsUnknown held holds before after (failed.Run fault) = IsStreamFault fault
-EndsAfterScript known IsUnknown held holds before after (Told told) =
-    IsStop refusals_told known told.fault (Some before) (Some after) × (holds ≡ held)
+EndsAfterScript known IsUnknown held holds before after (failed.Run fault) =
+    ((fault ≡ Read) × (holds ≡ held) × (after ≡ before)) ⊎ ((fault ≡ run.Write) ⊎ (fault ≡ NoMemory))
+EndsAfterScript known IsUnknown held holds before after (Noted noted) =
+    IsToldStop known noted.fault before after × (holds ≡ held)
 EndsAfterScript known IsUnknown held holds before after (UnknownName name) =
     ((fleet : Fleet) × IsLeftFleet known fleet × TellsRefused known fleet before after × IsUnknown fleet name.now)
     × (holds ≡ held)
@@ -341,14 +363,31 @@ EndsUpTo None nodes known held holds before after failure =
 EndsUpTo (Some line) nodes known held holds before after failure =
     EndsFront line nodes known held holds before after failure
 
+-- the script was stopped, and until then it was told why lines were refused
+abbrev pub IsNotedStop : Option Text → Text → Text → Failure → Type 0
+IsNotedStop known before after (Noted noted) = IsToldStop known noted.fault before after
+IsNotedStop known before after _ = ⊥
+
+-- a check ends so; where it is to be explained, the script wasn't read, and nothing is told; or it was stopped, and
+-- nothing is written; or it ends as a check of the text that was read
+abbrev pub EndsDoneCheck : Bool → Bool → Option Text → Option Text → Option Text → Text → Text → Failure → Type 0
+EndsDoneCheck false fills known held holds before after failure = EndsCheck fills known held holds failure
+EndsDoneCheck true fills known held holds before after failure =
+    (IsUnreadScript known failure × ((holds ≡ held) × (after ≡ before)))
+    ⊎ ((text : Text) × IsScriptOf known text
+    × ((IsNotedStop (Some text) before after failure × (holds ≡ held))
+    ⊎ EndsCheck fills (Some text) held holds failure))
+
 -- why what is wanted can end early, with so much left to be read, and what the writer holds then: the script was
--- stopped, or there are no keys for it; lines of a strict run were refused; reading the bytes that are to be shown
--- ended early, or what is told is so of them; or a write failed
+-- stopped, or there are no keys for it; lines of a strict run were refused; a race was done, and its lines not written,
+-- or it wasn't done; reading the bytes that are to be shown ended early, or what is told is so of them; or a write
+-- failed
 abbrev pub IsFailure : Wanted → Option Text → Option Text → Option Text → Option Text → Text → Text → Failure → Type 0
 IsFailure Run known left held holds before after (failed.Run fault) = IsStop no_notes known fault held holds
-IsFailure (RunTold explains traces is_strict) known left held holds before after failure =
-    EndsNoted is_strict (notes_of explains traces) known held holds failure
-IsFailure (Race nodes rounds) known left held holds before after (failed.Run fault) = IsStreamFault fault
+IsFailure (RunWithNotes explains traces is_strict) known left held holds before after failure =
+    EndsWithNotes is_strict (notes_of explains traces) known held holds failure
+IsFailure (Race nodes rounds) known left held holds before after (failed.Run fault) =
+    IsStreamFault fault × ((fault ≡ run.Write) ⊎ (holds ≡ held))
 IsFailure (wanted.Log nodes shows_hidden picture line) known left held holds before after failure =
     EndsUpTo line nodes.items known held holds before after failure
 IsFailure (Why nodes) known left held holds before after failure =
@@ -363,7 +402,8 @@ IsFailure (Write form name) known left held holds before after failure =
 IsFailure (Try trial) known left held holds before after failure = EndsTrial trial held holds failure
 IsFailure (Compare first second) known left held holds before after failure =
     EndsComparison (string_bytes first) (string_bytes second) held holds failure
-IsFailure (Check fills) known left held holds before after failure = EndsCheck fills known held holds failure
-IsFailure (Help error) known left held holds before after failure = failure ≡ failed.Run run.Write
-IsFailure (Version error) known left held holds before after failure = failure ≡ failed.Run run.Write
+IsFailure (Check fills explains) known left held holds before after failure =
+    EndsDoneCheck explains fills known held holds before after failure
+IsFailure (Help text) known left held holds before after failure = failure ≡ failed.Run run.Write
+IsFailure (Version text) known left held holds before after failure = failure ≡ failed.Run run.Write
 IsFailure _ known left held holds before after failure = ⊥

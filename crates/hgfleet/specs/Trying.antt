@@ -42,13 +42,13 @@ abbrev pub IsNamedRead : Text → Option Text → Text → Type 0
 IsNamedRead name known bytes = (length bytes ≤ file_limit) × (name ≡ codes "-" → IsFileRead known bytes)
 
 -- the message was taken
-abbrev pub IsTakenOne : Answer → Type 0
-IsTakenOne (Taken change turned) = Unit {0}
-IsTakenOne (Refused refusal) = ⊥
+abbrev pub IsMessageTaken : Answer → Type 0
+IsMessageTaken (Taken change turned) = Unit {0}
+IsMessageTaken (Refused refusal) = ⊥
 
 -- each message was taken
-abbrev pub AreTaken : List Answer → Type 0
-AreTaken = All IsTakenOne
+abbrev pub AreMessagesTaken : List Answer → Type 0
+AreMessagesTaken = All IsMessageTaken
 
 -- what messages were answered is told but where a graph or an array is all that is printed
 abbrev pub tells_answers : Account → Bool
@@ -59,12 +59,12 @@ tells_answers (Graph shows_hidden) = false
 tells_answers Array = false
 
 -- what messages were answered, where that is told, and else nothing
-abbrev pub AreToldIf : Bool → List Answer → Text → Type 0
-AreToldIf true answers text = AreAnswersText answers text
-AreToldIf false answers text = text ≡ []
+abbrev pub AreAnswersToldIf : Bool → List Answer → Text → Type 0
+AreAnswersToldIf true answers text = AreAnswersText answers text
+AreAnswersToldIf false answers text = text ≡ []
 
-abbrev pub AreTold : Account → List Answer → Text → Type 0
-AreTold account answers text = AreToldIf (tells_answers account) answers text
+abbrev pub AreAnswersTold : Account → List Answer → Text → Type 0
+AreAnswersTold account answers text = AreAnswersToldIf (tells_answers account) answers text
 
 -- what stands after a trial, where nothing is pinned, and what it is called
 abbrev pub standing : ReplicaState → NodeState
@@ -81,7 +81,7 @@ IsShownOf Array trial text = IsArray true (standing trial ∷ []) text
 -- what messages were answered, and below it what stands then
 abbrev pub IsAccount : Account → List Answer → ReplicaState → Text → Type 0
 IsAccount account answers trial text =
-    (told : Text) × (shown : Text) × AreTold account answers told × IsShownOf account trial shown
+    (told : Text) × (shown : Text) × AreAnswersTold account answers told × IsShownOf account trial shown
     × (text ≡ told ++ shown)
 
 -- as many messages as files are named were answered so, one after the other, and the account was written of it
@@ -93,11 +93,12 @@ IsTrial wanted answers held holds =
 
 -- the messages were taken
 abbrev pub IsTakenTrial : WantedTrial → Option Text → Option Text → Type 0
-IsTakenTrial wanted held holds = (answers : List Answer) × IsTrial wanted answers held holds × AreTaken answers
+IsTakenTrial wanted held holds = (answers : List Answer) × IsTrial wanted answers held holds × AreMessagesTaken answers
 
 -- the messages were answered, and one was refused
 abbrev pub IsRefusedTrial : WantedTrial → Option Text → Option Text → Type 0
-IsRefusedTrial wanted held holds = (answers : List Answer) × IsTrial wanted answers held holds × ¬ (AreTaken answers)
+IsRefusedTrial wanted held holds =
+    (answers : List Answer) × IsTrial wanted answers held holds × ¬ (AreMessagesTaken answers)
 
 -- the messages were answered, whatever it was
 abbrev pub IsAnsweredTrial : WantedTrial → Option Text → Option Text → Type 0
@@ -150,21 +151,24 @@ abbrev pub IsTargetUnwritten : Option (String Global) → Failure → Type 0
 IsTargetUnwritten (Some name) failure = IsUnwritten (string_bytes name) failure
 IsTargetUnwritten None failure = ⊥
 
--- a trial: a message was refused; or a file wasn't read, and nothing was printed; or all messages were answered, and
--- the file that is written wasn't; or there are no keys, or a write failed, or memory was wanting
+-- a trial: a message was refused; or a file wasn't read, or there are no keys, and nothing was printed; or all messages
+-- were answered, and the file that is written wasn't; or a write failed, or memory was wanting
 abbrev pub EndsTrial : WantedTrial → Option Text → Option Text → Failure → Type 0
 EndsTrial wanted held holds NotTaken = IsRefusedTrial wanted held holds
 EndsTrial wanted held holds (File told fault) =
     (IsUnreadAmong wanted.files.items (File told fault) × (holds ≡ held))
     ⊎ ((option_map string_bytes wanted.target ≡ Some told.now) × IsAnsweredTrial wanted held holds)
-EndsTrial wanted held holds (Run fault) = (fault ≡ Read) ⊎ ((fault ≡ Write) ⊎ (fault ≡ NoMemory))
+EndsTrial wanted held holds (Run fault) =
+    ((fault ≡ Read) × (holds ≡ held)) ⊎ ((fault ≡ Write) ⊎ (fault ≡ NoMemory))
 EndsTrial wanted held holds _ = ⊥
 
--- a comparison, once both files are read: they differ, or one of the messages was refused
+-- a comparison, once both files are read: they differ, or one of the messages was refused; or there are no keys, and
+-- nothing was written; or a write failed, or memory was wanting
 abbrev pub EndsCompared : Option Text → Option Text → Failure → Type 0
 EndsCompared held holds Differ = IsComparison (Some false) held holds
 EndsCompared held holds NotTaken = IsComparison None held holds
-EndsCompared held holds (Run fault) = (fault ≡ Read) ⊎ ((fault ≡ Write) ⊎ (fault ≡ NoMemory))
+EndsCompared held holds (Run fault) =
+    ((fault ≡ Read) × (holds ≡ held)) ⊎ ((fault ≡ Write) ⊎ (fault ≡ NoMemory))
 EndsCompared held holds _ = ⊥
 
 -- a comparison of two files: the same; or one of them wasn't read, and nothing was written

@@ -10,7 +10,7 @@ ghost use Rattle.hg_show.specs.declared.form.Form.TheVariants.{Store, Message};
 ghost use Rattle.hgfleet.specs.Arguments.{ArgumentsAnswer, IsRun, IsMistake, MeetsWanted, ParseAnswer, faults_at};
 ghost use Rattle.hgfleet.specs.Arguments.{program_at, program_alone};
 ghost use Rattle.hgfleet.specs.Arguments.{run, race, show_at, write_at, form_rule};
-ghost use Rattle.hgfleet.specs.Arguments.{IsRunTold, notes_given, run_notes};
+ghost use Rattle.hgfleet.specs.Arguments.{IsRunWithNotesOf, notes_given, run_notes};
 ghost use Rattle.hgfleet.specs.Arguments.{IsRaceOf, number_given, numbers_given, race_numbers};
 ghost use Rattle.hgfleet.specs.Arguments.{log_options, number_rule, wanted_number};
 ghost use Rattle.hgfleet.specs.Arguments.{texts_of};
@@ -51,7 +51,7 @@ pub enum Wanted {
     Run,
     /// That it is run with notes, of what refusals are about and of what accepted lines did, or so that a refused line
     /// is a failure.
-    RunTold {
+    RunWithNotes {
         explains: bool,
         traces: bool,
         is_strict: bool,
@@ -90,14 +90,15 @@ pub enum Wanted {
         second: String,
     },
     /// That it is told in what the script of standard input differs from what its lines print, or, where it is to be
-    /// filled in, that it is written with that.
+    /// filled in, that it is written with that; and why lines were refused, or not.
     Check {
         fills: bool,
+        explains: bool,
     },
-    /// The text of the help, which is the message of this answer.
-    Help(Error),
-    /// The version, which is the message of this answer.
-    Version(Error),
+    /// The help, which is this text.
+    Help(String),
+    /// The version, which is this text.
+    Version(String),
 }
 
 /// Why the arguments ask for nothing.
@@ -159,8 +160,12 @@ impl<T: Drop> From<AllocFailed<T>> for ArgumentFault {
     }
 }
 
-// The version, and what it was proved with.
-const VERSION: &str = "0.1.0, proved with rattle-kit-13f logic dac8208d650f15bf";
+// The version, and for which toolchain it is. Whether this build was proved the program can't know.
+const VERSION: &str = "0.1.0, for rattle-kit-13f logic dac8208d650f15bf";
+
+/// What `--explain` says where refused lines aren't printed.
+pub(crate) const EXPLAINED: &str =
+    "As in run; lines that were refused are explained without it, too";
 
 // What a script looks like, and what comes of it.
 const SCRIPT_HELP: &str = "\
@@ -242,7 +247,7 @@ Does the script of standard input, and then writes bytes to standard output. Wha
   store    the obsolescence markers of the node NAME, in Mercurial's format 0
   roots    the text of the phase roots of the node NAME
   message  the message that an offer of the script keeps as NAME
-Lines that were refused are told on standard error.
+Lines that were refused are explained on standard error.
 
 Statuses: 0 done, 1 a script that ended early or leaves no such name, or a text that
 can't be written, 2 wrong arguments, 3 want of memory.
@@ -272,8 +277,8 @@ pub fn read_args(alloc: Global, words: &[&str]) -> Result<Wanted, ArgumentFault>
             }
         }
         Err(error) => match error.kind() {
-            ErrorKind::DisplayHelp => Ok(Wanted::Help(error)),
-            ErrorKind::DisplayVersion => Ok(Wanted::Version(error)),
+            ErrorKind::DisplayHelp => Ok(Wanted::Help(error.to_string(alloc)?)),
+            ErrorKind::DisplayVersion => Ok(Wanted::Version(error.to_string(alloc)?)),
             ErrorKind::OutOfMemory => Err(ArgumentFault::NoMemory),
             _ => Err(ArgumentFault::BadArguments(error)),
         },
@@ -358,13 +363,13 @@ fn given_to(alloc: Global, name: &str, given: &ArgMatches<'_>) -> Result<Option<
 
 // The run of these flags, none where no flag is given.
 fn run_of(run: &ArgMatches<'_>) -> Option<Wanted>
-    ensures { IsRunTold (notes_given (rows_of (found_of run.now))) result }
+    ensures { IsRunWithNotesOf (notes_given (rows_of (found_of run.now))) result }
 {
     let explains = flag_of(run, "explain");
     let traces = flag_of(run, "trace");
     let is_strict = flag_of(run, "strict");
     if explains || traces || is_strict {
-        Some(Wanted::RunTold {
+        Some(Wanted::RunWithNotes {
             explains,
             traces,
             is_strict,
@@ -605,7 +610,7 @@ fn race_nodes<'a>(alloc: Global) -> Arg<'a>
     ensures { IsArgument (wanted_number (codes "nodes") 2 16) result }
 {
     let parser = value_parser!(u32).range(2..=16);
-    number_argument(alloc, "nodes", "N", parser, "How many nodes, 2 to 16").required(true)
+    number_argument(alloc, "nodes", "N (2 to 16)", parser, "How many nodes").required(true)
 }
 
 // The number of its rounds.
@@ -613,7 +618,7 @@ fn race_rounds<'a>(alloc: Global) -> Arg<'a>
     ensures { IsArgument (wanted_number (codes "rounds") 1 1000) result }
 {
     let parser = value_parser!(u32).range(1..=1_000);
-    number_argument(alloc, "rounds", "R", parser, "How many rounds, 1 to 1,000").required(true)
+    number_argument(alloc, "rounds", "R (1 to 1000)", parser, "How many rounds").required(true)
 }
 
 /// An option `--NAME VALUE`, whose value is a number that this parser takes.
@@ -677,13 +682,14 @@ fn write<'a>(alloc: Global, forms: &'a [&'a str]) -> Result<Command<'a>, AllocEr
         "write",
         "Writes markers, phase roots or a message of a script as bytes",
         WRITE_HELP,
-        "hgfleet write <FORM> <NAME> < SCRIPT",
+        "hgfleet write [OPTIONS] <FORM> <NAME> < SCRIPT",
     );
     let write = with_argument(Ok(write), form_argument(alloc, forms));
-    with_argument(
+    let write = with_argument(
         write,
         needed_argument(alloc, "name", "NAME", "The node, or the message"),
-    )
+    );
+    with_flag(alloc, write, "explain", EXPLAINED)
 }
 
 // The form of bytes, which must be given.

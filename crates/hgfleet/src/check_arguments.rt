@@ -27,7 +27,7 @@ Statuses: 0 done and no line differs, 1 a line that differs, a script that ended
 For example:
   printf 'node A\\nreport A\\n' | hgfleet check --write";
 
-/// The command that checks a script, with its flag.
+/// The command that checks a script, with its flags.
 pub(crate) fn check_command<'a>(alloc: Global) -> Result<Command<'a>, AllocError>
     ensures { IfOk result (λ command. (app_of command ≡ check_app) × ((out-Command command).has_globals ≡ false)) }
 {
@@ -38,18 +38,26 @@ pub(crate) fn check_command<'a>(alloc: Global) -> Result<Command<'a>, AllocError
         CHECK_HELP,
         "hgfleet check [OPTIONS] < SCRIPT",
     );
-    with_flag(
+    let check = with_flag(
         alloc,
         Ok(check),
         "write",
         "Prints the script with what its lines print",
+    );
+    with_flag(
+        alloc,
+        check,
+        "explain",
+        "Says on standard error what each refusal is about, and which word is at fault",
     )
 }
 
-/// That a script is checked, or filled in where this flag is given.
+/// That a script is checked, or filled in where this flag is given, and with why lines were refused where that is.
 pub(crate) fn check_of(given: &ArgMatches<'_>) -> Option<Wanted>
-    ensures { IsCheckOf (flag_given (codes "write") (rows_of (found_of given.now))) result }
+    ensures { IsCheckOf (flag_given (codes "write") (rows_of (found_of given.now)))
+        (flag_given (codes "explain") (rows_of (found_of given.now))) result }
 {
     let fills = flag_of(given, "write");
-    Some(Wanted::Check { fills })
+    let explains = flag_of(given, "explain");
+    Some(Wanted::Check { fills, explains })
 }

@@ -3,29 +3,30 @@ ghost use Rattle.std.specs.Prelude.{◌≡◌, ◌++◌, List, ℕ, Some, string
 ghost use Rattle.std.specs.Prelude.{All, map};
 ghost use Rattle.std.specs.Io.KnownBytes.{Appends};
 ghost use Rattle.hg_log.specs.Objects.{names_and_states};
+ghost use Rattle.hg_script.specs.Printing.{WritesCounted};
 ghost use Rattle.hg_script.specs.Scripts.{IsLeftFleet};
 ghost use Rattle.hg_script.specs.Scripts.{node_named};
-ghost use Rattle.hg_script.specs.Stops.{IsStop};
 ghost use Rattle.hgfleet.specs.Arguments.{IsWithinBounds, texts_of};
-ghost use Rattle.hgfleet.specs.Commands.{AreDrawn, AreShown, DrawsFront, DrawsNodes, DrawsUpTo, EndsAfterScript};
-ghost use Rattle.hgfleet.specs.Commands.{EndsFront, EndsNoted, EndsUpTo, IsDone, IsDrawn, IsFailure, IsNoted};
-ghost use Rattle.hgfleet.specs.Commands.{IsUnknownAmong, IsUnknownOf};
-ghost use Rattle.hgfleet.specs.Commands.{IsUnlabelledAmong, IsUntold, TellsFates, TellsRefused, WritesForm, closing};
-ghost use Rattle.hgfleet.specs.Commands.{drawn_names, notes_of};
-ghost use Rattle.hgfleet.specs.Commands.{overview_of, refusals_told, state_of, states_of};
+ghost use Rattle.hgfleet.specs.Commands.{AreDrawn, AreShown, DoesWanted, DrawsFront, DrawsNodes, DrawsUpTo};
+ghost use Rattle.hgfleet.specs.Commands.{EndsAfterScript, EndsFront, EndsUpTo, EndsWithNotes, IsDoneWithNotes};
+ghost use Rattle.hgfleet.specs.Commands.{IsDrawn, IsFailure, IsToldStop, IsUnknownAmong, IsUnknownOf};
+ghost use Rattle.hgfleet.specs.Commands.{IsUnlabelledAmong, LeavesRefusals, TellsFates, TellsRefused, WritesForm};
+ghost use Rattle.hgfleet.specs.Commands.{closing, drawn_names, node_state_of, node_states_of, notes_of, overview_of};
+ghost use Rattle.hgfleet.specs.Commands.{refusals_told};
 
 use crate::arguments::{Picture, Wanted};
 use crate::checking::check_lines;
-use crate::drawing::{Drawing, draw};
+use crate::drawing::{Drawing, draw, gap_behind, write_drawn};
 use crate::failure::Failure;
 use crate::fates::{unknown_label, write_fates};
 use crate::trying::{compare_files, try_files};
-use clap::Error;
 use hg_expect::{count_lines, first_lines};
 use hg_log::{DrawFault, Look, NamedNode, draw_graphs, draw_objects};
 use hg_node_set::IdKeys;
 use hg_race::run_race;
-use hg_script::{Fleet, Notes, Outcome, RunFault, ToldFault, read_script, run_script, run_told};
+use hg_script::{
+    Fleet, NotedFault, Notes, Outcome, RunFault, read_script, run_script, run_with_notes,
+};
 use hg_show::{Form, show, write_bytes, write_roots, write_store};
 use hg_why::Remedy;
 use std::alloc::{AllocError, Global};
@@ -50,20 +51,20 @@ pub fn perform<
     is_coloured: bool,
     reader: &mut R,
     writer: &mut W,
-    told: &mut Vec<u8>,
+    refusals: &mut Vec<u8>,
 ) -> Result<(), Failure<'a>>
     requires { IsWithinBounds wanted.now }
     ensures done { OnOk result
-        (IsDone wanted.now is_coloured (R.remaining reader.old) (W.contents writer.old) (W.contents writer.new)
-        told.old.items told.new.items) }
+        (DoesWanted wanted.now is_coloured (R.remaining reader.old) (W.contents writer.old) (W.contents writer.new)
+        refusals.old.items refusals.new.items) }
     ensures failed { IfErr result (IsFailure wanted.now (R.remaining reader.old) (R.remaining reader.new)
-        (W.contents writer.old) (W.contents writer.new) told.old.items told.new.items) }
-    ensures untold { IsUntold wanted.now told.old.items told.new.items }
+        (W.contents writer.old) (W.contents writer.new) refusals.old.items refusals.new.items) }
+    ensures left { LeavesRefusals wanted.now refusals.old.items refusals.new.items }
 {
     let alloc = rt.alloc();
     match wanted {
         Wanted::Run => return Ok(run_script(alloc, secret_keys(rt)?, reader, writer)?),
-        Wanted::RunTold {
+        Wanted::RunWithNotes {
             explains,
             traces,
             is_strict,
@@ -78,27 +79,25 @@ pub fn perform<
             line,
         } => {
             let overview = overview_of(*shows_hidden, is_coloured, *picture);
-            return draw_up_to(rt, *line, reader, writer, told, nodes, overview);
+            return draw_up_to(rt, *line, reader, writer, refusals, nodes, overview);
         }
         Wanted::Why(nodes) => {
             let overview = Overview::Each(Drawing::Why(Remedy::ScriptLine));
-            return draw_script(rt, reader, writer, told, nodes, overview);
+            return draw_script(rt, reader, writer, refusals, nodes, overview);
         }
-        Wanted::Fate(labels) => return tell_fates(rt, reader, writer, told, labels),
+        Wanted::Fate(labels) => return tell_fates(rt, reader, writer, refusals, labels),
         Wanted::Show(form) => return Ok(show(alloc, *form, reader, writer)?),
         Wanted::Write { form, name } => {
-            return write(rt, reader, writer, told, *form, name);
+            return write(rt, reader, writer, refusals, *form, name);
         }
-        Wanted::Try(trial) => {
-            return try_files(rt, secret_keys(rt)?, trial, is_coloured, reader, writer);
-        }
+        Wanted::Try(trial) => return try_files(rt, trial, is_coloured, reader, writer),
         Wanted::Compare { first, second } => {
-            return compare_files(rt, secret_keys(rt)?, first, second, reader, writer);
+            return compare_files(rt, first, second, reader, writer);
         }
-        Wanted::Check { fills } => {
-            return check_lines(alloc, secret_keys(rt)?, *fills, reader, writer);
+        Wanted::Check { fills, explains } => {
+            return check_lines(rt, *fills, *explains, reader, writer, refusals);
         }
-        Wanted::Help(text) | Wanted::Version(text) => return write_text(text, writer),
+        Wanted::Help(text) | Wanted::Version(text) => return write_text(text.as_bytes(), writer),
     }
 }
 
@@ -111,9 +110,9 @@ fn run_noted<R: Read, W: Write>(
     traces: bool,
     is_strict: bool,
 ) -> Result<(), Failure<'static>>
-    ensures done { OnOk result (IsNoted is_strict (notes_of explains traces) (R.remaining reader.old)
+    ensures done { OnOk result (IsDoneWithNotes is_strict (notes_of explains traces) (R.remaining reader.old)
         (W.contents writer.old) (W.contents writer.new)) }
-    ensures failed { IfErr result (EndsNoted is_strict (notes_of explains traces) (R.remaining reader.old)
+    ensures failed { IfErr result (EndsWithNotes is_strict (notes_of explains traces) (R.remaining reader.old)
         (W.contents writer.old) (W.contents writer.new)) }
 {
     let notes = Notes {
@@ -121,7 +120,7 @@ fn run_noted<R: Read, W: Write>(
         traces,
         refusals_alone: false,
     };
-    let outcome = run_told(rt.alloc(), secret_keys(rt)?, reader, writer, notes)?;
+    let outcome = run_with_notes(rt.alloc(), secret_keys(rt)?, reader, writer, notes)?;
     if outcome.refused == 0 {
         return Ok(());
     }
@@ -133,52 +132,71 @@ fn run_noted<R: Read, W: Write>(
 
 // The fleet as the script that the reader has leaves it. Why lines were refused is put into the text, and behind that,
 // where any was, that they are left out of what is shown.
-fn run_apart<R: Read>(
+fn run_for_fleet<R: Read>(
     alloc: Global,
     keys: IdKeys,
     reader: &mut R,
-    told: &mut Vec<u8>,
-) -> Result<Fleet, ToldFault>
+    refusals: &mut Vec<u8>,
+) -> Result<Fleet, NotedFault>
     ensures ran { IfOk result (IsLeftFleet (R.remaining reader.old)) }
     ensures told { IfOk result (λ fleet.
-        TellsRefused (R.remaining reader.old) fleet told.old.items told.new.items) }
+        TellsRefused (R.remaining reader.old) fleet refusals.old.items refusals.new.items) }
     ensures stopped { IfErr result (λ ended.
-        IsStop refusals_told (R.remaining reader.old) ended.fault (Some told.old.items) (Some told.new.items)) }
+        IsToldStop (R.remaining reader.old) ended.fault refusals.old.items refusals.new.items) }
+{
+    match tell_refusals(alloc, keys, reader, refusals) {
+        Ok(outcome) => {
+            let Outcome { fleet, refused } = outcome;
+            match close(refusals, refused) {
+                Ok(()) => Ok(fleet),
+                Err(_) => Err(NotedFault::from(RunFault::NoMemory)),
+            }
+        }
+        Err(ended) => Err(ended),
+    }
+}
+
+/// Runs the script that the reader has, and puts into the text why lines were refused, in place of what they print.
+pub(crate) fn tell_refusals<R: Read>(
+    alloc: Global,
+    keys: IdKeys,
+    reader: &mut R,
+    refusals: &mut Vec<u8>,
+) -> Result<Outcome, NotedFault>
+    ensures ran { IfOk result (λ outcome. IsLeftFleet (R.remaining reader.old) outcome.fleet) }
+    ensures told { IfOk result (λ outcome. WritesCounted refusals_told (R.remaining reader.old) outcome.fleet.world
+        outcome.refused (Some refusals.old.items) (Some refusals.new.items)) }
+    ensures stopped { IfErr result (λ ended.
+        IsToldStop (R.remaining reader.old) ended.fault refusals.old.items refusals.new.items) }
 {
     let notes = Notes {
         explains: true,
         traces: false,
         refusals_alone: true,
     };
-    match run_told(alloc, keys, reader, told, notes) {
-        Ok(outcome) => {
-            let Outcome { fleet, refused } = outcome;
-            match close(told, refused) {
-                Ok(()) => Ok(fleet),
-                Err(_) => Err(ToldFault::from(RunFault::NoMemory)),
-            }
-        }
+    match run_with_notes(alloc, keys, reader, refusals, notes) {
+        Ok(outcome) => Ok(outcome),
         Err(ended) => match ended.fault {
             // A text refuses what is put into it for want of memory alone.
-            RunFault::Write => Err(ToldFault::from(RunFault::NoMemory)),
+            RunFault::Write => Err(NotedFault::from(RunFault::NoMemory)),
             _ => Err(ended),
         },
     }
 }
 
 // Says behind the refusals of so many lines that these are left out.
-fn close(told: &mut Vec<u8>, refused: usize) -> Result<(), AllocError>
-    ensures { OnOk result (told.new.items ≡ told.old.items ++ closing refused) }
+fn close(refusals: &mut Vec<u8>, refused: usize) -> Result<(), AllocError>
+    ensures { OnOk result (refusals.new.items ≡ refusals.old.items ++ closing refused) }
 {
     if refused == 0 {
         return Ok(());
     }
-    told.extend_from_slice(b"hgfleet: what is shown is without the lines that were refused\n")?;
+    refusals.extend_from_slice(b"hgfleet: what is shown is without the lines that were refused\n")?;
     Ok(())
 }
 
-// Keys that no writer of a script knows. Where the system draws none, the answer is that of a failed read.
-fn secret_keys(rt: &impl RandomSource) -> Result<IdKeys, RunFault>
+/// Keys that no writer of a script knows. Where the system draws none, the answer is that of a failed read.
+pub(crate) fn secret_keys(rt: &impl RandomSource) -> Result<IdKeys, RunFault>
     ensures { IfErr result (λ fault. fault ≡ RunFault.Read) }
 {
     match IdKeys::secret(rt) {
@@ -187,11 +205,12 @@ fn secret_keys(rt: &impl RandomSource) -> Result<IdKeys, RunFault>
     }
 }
 
-// Writes the text of the help, or of the version.
-fn write_text<W: Write>(text: &Error, writer: &mut W) -> Result<(), Failure<'static>>
-    ensures { IfErr result (λ failure. failure ≡ Failure.Run RunFault.Write) }
+/// Writes a text as it is.
+pub(crate) fn write_text<W: Write>(text: &[u8], writer: &mut W) -> Result<(), Failure<'static>>
+    ensures written { OnOk result (Appends (W.contents writer.old) (W.contents writer.new) text.now) }
+    ensures failed { IfErr result (λ failure. failure ≡ Failure.Run RunFault.Write) }
 {
-    match write!(writer, "{text}") {
+    match writer.write_all(text) {
         Ok(()) => Ok(()),
         Err(_) => Err(Failure::Run(RunFault::Write)),
     }
@@ -227,18 +246,18 @@ fn draw_up_to<'a, R: Read, W: Write>(
     line: Option<u32>,
     reader: &mut R,
     writer: &mut W,
-    told: &mut Vec<u8>,
+    refusals: &mut Vec<u8>,
     nodes: &'a [String],
     overview: Overview,
 ) -> Result<(), Failure<'a>>
     ensures drawn { OnOk result (DrawsUpTo line nodes.entry.now overview (R.remaining reader.old)
-        (W.contents writer.old) (W.contents writer.new) told.old.items told.new.items) }
+        (W.contents writer.old) (W.contents writer.new) refusals.old.items refusals.new.items) }
     ensures failed { IfErr result (EndsUpTo line nodes.entry.now (R.remaining reader.old)
-        (W.contents writer.old) (W.contents writer.new) told.old.items told.new.items) }
+        (W.contents writer.old) (W.contents writer.new) refusals.old.items refusals.new.items) }
 {
     match line {
-        Some(line) => draw_front(rt, line, reader, writer, told, nodes, overview),
-        None => draw_script(rt, reader, writer, told, nodes, overview),
+        Some(line) => draw_front(rt, line, reader, writer, refusals, nodes, overview),
+        None => draw_script(rt, reader, writer, refusals, nodes, overview),
     }
 }
 
@@ -248,20 +267,20 @@ fn draw_front<'a, R: Read, W: Write>(
     line: u32,
     reader: &mut R,
     writer: &mut W,
-    told: &mut Vec<u8>,
+    refusals: &mut Vec<u8>,
     nodes: &'a [String],
     overview: Overview,
 ) -> Result<(), Failure<'a>>
     ensures drawn { OnOk result (DrawsFront line nodes.entry.now overview (R.remaining reader.old)
-        (W.contents writer.old) (W.contents writer.new) told.old.items told.new.items) }
+        (W.contents writer.old) (W.contents writer.new) refusals.old.items refusals.new.items) }
     ensures failed { IfErr result (EndsFront line nodes.entry.now (R.remaining reader.old)
-        (W.contents writer.old) (W.contents writer.new) told.old.items told.new.items) }
+        (W.contents writer.old) (W.contents writer.new) refusals.old.items refusals.new.items) }
 {
     let text = read_script(rt.alloc(), reader)?;
     match first_lines(&text, line as usize) {
         Some(front) => {
             let mut rest = front;
-            draw_script(rt, &mut rest, writer, told, nodes, overview)
+            draw_script(rt, &mut rest, writer, refusals, nodes, overview)
         }
         None => Err(Failure::FewLines(count_lines(&text))),
     }
@@ -273,17 +292,17 @@ fn draw_script<'a, R: Read, W: Write>(
     rt: &(impl AllocGlobal + RandomSource),
     reader: &mut R,
     writer: &mut W,
-    told: &mut Vec<u8>,
+    refusals: &mut Vec<u8>,
     nodes: &'a [String],
     overview: Overview,
 ) -> Result<(), Failure<'a>>
     ensures drawn { OnOk result (DrawsNodes nodes.entry.now overview (R.remaining reader.old)
-        (W.contents writer.old) (W.contents writer.new) told.old.items told.new.items) }
+        (W.contents writer.old) (W.contents writer.new) refusals.old.items refusals.new.items) }
     ensures failed { IfErr result (EndsAfterScript (R.remaining reader.old) (IsUnknownAmong nodes.entry.now)
-        (W.contents writer.old) (W.contents writer.new) told.old.items told.new.items) }
+        (W.contents writer.old) (W.contents writer.new) refusals.old.items refusals.new.items) }
 {
     let alloc = rt.alloc();
-    let fleet = run_apart(alloc, secret_keys(rt)?, reader, told)?;
+    let fleet = run_for_fleet(alloc, secret_keys(rt)?, reader, refusals)?;
     match unknown_name(&fleet, nodes) {
         Some(name) => Err(Failure::UnknownName(name)),
         None => {
@@ -359,7 +378,7 @@ fn named_nodes<'a>(
     names: &[&'a [u8]],
 ) -> Result<Vec<NamedNode<'a>>, AllocError>
     ensures { IfOk result (λ nodes.
-        names_and_states nodes.items ≡ states_of fleet.entry.now (map (λ name. name.now) names.now)) }
+        names_and_states nodes.items ≡ node_states_of fleet.entry.now (map (λ name. name.now) names.now)) }
 {
     let mut nodes = Vec::with_capacity(alloc, names.len())?;
     for name in names {
@@ -375,7 +394,7 @@ fn push_node<'a>(
     name: &'a [u8],
 ) -> Result<(), AllocError>
     ensures { OnOk result (names_and_states nodes.new.items
-        ≡ names_and_states nodes.old.items ++ state_of fleet.entry.now name.entry.now) }
+        ≡ names_and_states nodes.old.items ++ node_state_of fleet.entry.now name.entry.now) }
 {
     match fleet.kept_of(name) {
         Some(kept) => {
@@ -396,6 +415,7 @@ fn bytes_of<'a>(alloc: Global, names: &'a [String]) -> Result<Vec<&'a [u8]>, All
     Ok(bytes)
 }
 
+// Draws the nodes of these names, one below the other.
 fn draw_all<W: Write>(
     alloc: Global,
     fleet: &Fleet,
@@ -406,25 +426,33 @@ fn draw_all<W: Write>(
     ensures { OnOk result ((text : List ℕ) × AreDrawn fleet.now drawing (map (λ name. name.now) names.now) text
         × Appends (W.contents writer.old) (W.contents writer.new) text) }
 {
+    let mut drawn = Vec::new(alloc);
     for name in names {
-        draw_node(alloc, fleet, *name, drawing, writer)?;
+        write_drawn(gap_behind(&drawn, drawing), writer)?;
+        drawn.clear();
+        draw_node(alloc, fleet, *name, drawing, &mut drawn)?;
+        write_drawn(&drawn, writer)?;
     }
     Ok(())
 }
 
-// Draws the node of this name, nothing where there is none.
-fn draw_node<W: Write>(
+// Appends the drawing of the node of this name to the text, which takes all but for want of memory; nothing where there
+// is no such node.
+fn draw_node(
     alloc: Global,
     fleet: &Fleet,
     name: &[u8],
     drawing: Drawing,
-    writer: &mut W,
+    text: &mut Vec<u8>,
 ) -> Result<(), DrawFault>
-    ensures { OnOk result ((text : List ℕ) × IsDrawn fleet.now drawing name.now text
-        × Appends (W.contents writer.old) (W.contents writer.new) text) }
+    ensures { OnOk result ((drawn : List ℕ) × IsDrawn fleet.now drawing name.now drawn
+        × (text.new.items ≡ text.old.items ++ drawn)) }
 {
     match fleet.kept_of(name) {
-        Some(kept) => draw(alloc, name, kept, drawing, writer),
+        Some(kept) => match draw(alloc, name, kept, drawing, text) {
+            Ok(()) => Ok(()),
+            Err(_) => Err(DrawFault::NoMemory),
+        },
         None => Ok(()),
     }
 }
@@ -435,16 +463,16 @@ fn tell_fates<'a, R: Read, W: Write>(
     rt: &(impl AllocGlobal + RandomSource),
     reader: &mut R,
     writer: &mut W,
-    told: &mut Vec<u8>,
+    refusals: &mut Vec<u8>,
     labels: &'a [String],
 ) -> Result<(), Failure<'a>>
     ensures fates { OnOk result (TellsFates labels.entry.now (R.remaining reader.old)
-        (W.contents writer.old) (W.contents writer.new) told.old.items told.new.items) }
+        (W.contents writer.old) (W.contents writer.new) refusals.old.items refusals.new.items) }
     ensures failed { IfErr result (EndsAfterScript (R.remaining reader.old) (IsUnlabelledAmong labels.entry.now)
-        (W.contents writer.old) (W.contents writer.new) told.old.items told.new.items) }
+        (W.contents writer.old) (W.contents writer.new) refusals.old.items refusals.new.items) }
 {
     let alloc = rt.alloc();
-    let fleet = run_apart(alloc, secret_keys(rt)?, reader, told)?;
+    let fleet = run_for_fleet(alloc, secret_keys(rt)?, reader, refusals)?;
     match unknown_label(&fleet, labels) {
         Some(label) => Err(Failure::UnknownName(label)),
         None => {
@@ -460,16 +488,16 @@ fn write<'a, R: Read, W: Write>(
     rt: &(impl AllocGlobal + RandomSource),
     reader: &mut R,
     writer: &mut W,
-    told: &mut Vec<u8>,
+    refusals: &mut Vec<u8>,
     form: Form,
     name: &'a str,
 ) -> Result<(), Failure<'a>>
     ensures written { OnOk result (WritesForm form name.entry.now (R.remaining reader.old)
-        (W.contents writer.old) (W.contents writer.new) told.old.items told.new.items) }
+        (W.contents writer.old) (W.contents writer.new) refusals.old.items refusals.new.items) }
     ensures failed { IfErr result (EndsAfterScript (R.remaining reader.old) (IsUnknownOf form name.entry.now)
-        (W.contents writer.old) (W.contents writer.new) told.old.items told.new.items) }
+        (W.contents writer.old) (W.contents writer.new) refusals.old.items refusals.new.items) }
 {
-    let fleet = run_apart(rt.alloc(), secret_keys(rt)?, reader, told)?;
+    let fleet = run_for_fleet(rt.alloc(), secret_keys(rt)?, reader, refusals)?;
     match form {
         Form::Store => match fleet.kept_of(name.as_bytes()) {
             Some(kept) => {

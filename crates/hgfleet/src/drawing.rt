@@ -1,7 +1,7 @@
 //! What is drawn, or told, of a node.
-ghost use Rattle.std.specs.Prelude.{List, ℕ, OnOk};
+ghost use Rattle.std.specs.Prelude.{◌≡◌, List, ℕ, OnOk};
 ghost use Rattle.std.specs.Io.KnownBytes.{Appends};
-ghost use Rattle.hgfleet.specs.Drawings.{IsDrawing, IsHistory, heading};
+ghost use Rattle.hgfleet.specs.Drawings.{IsDrawing, IsHistory, gap_behind, log_heading};
 
 use hg_log::{DrawFault, Look, draw_log};
 use hg_view::Kept;
@@ -52,13 +52,37 @@ fn draw_below<W: Write>(
 
 // Writes the line with a node's name.
 fn write_heading<W: Write>(alloc: Global, name: &[u8], writer: &mut W) -> Result<(), DrawFault>
-    ensures { OnOk result (Appends (W.contents writer.old) (W.contents writer.new) (heading name.now)) }
+    ensures { OnOk result (Appends (W.contents writer.old) (W.contents writer.new) (log_heading name.now)) }
 {
     let mut heading = Vec::from_slice(alloc, b"log ")?;
     heading.extend_from_slice(name)?;
     heading.push(b'\n')?;
-    match writer.write_all(&heading) {
+    write_drawn(&heading, writer)
+}
+
+/// Writes these bytes of a drawing.
+pub fn write_drawn<W: Write>(bytes: &[u8], writer: &mut W) -> Result<(), DrawFault>
+    ensures { OnOk result (Appends (W.contents writer.old) (W.contents writer.new) bytes.now) }
+{
+    match writer.write_all(bytes) {
         Ok(()) => Ok(()),
         Err(_) => Err(DrawFault::Write),
+    }
+}
+
+/// What stands between this drawing and the next: an empty line, where the first has lines and none of them is an empty
+/// one at its end. Why changesets are unstable follows at once.
+pub fn gap_behind(drawn: &[u8], drawing: Drawing) -> &'static [u8]
+    ensures { result.now ≡ gap_behind drawing drawn.now }
+{
+    match drawing {
+        Drawing::Log(_) => {
+            if drawn.is_empty() || drawn.ends_with(b"\n\n") {
+                b""
+            } else {
+                b"\n"
+            }
+        }
+        Drawing::Why(_) => b"",
     }
 }

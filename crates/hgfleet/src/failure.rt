@@ -5,7 +5,7 @@ ghost use Rattle.hgfleet.specs.Commands.{IsWriteFailure, failure_status};
 use crate::files::FileFault;
 use hg_log::DrawFault;
 use hg_obsstore::StoreFault;
-use hg_script::{RunFault, ToldFault};
+use hg_script::{NotedFault, RunFault};
 use hg_show::{ShowFault, WriteFault};
 use std::alloc::{AllocError, AllocFailed};
 use std::fmt;
@@ -16,7 +16,7 @@ pub enum Failure<'a> {
     /// What ended a script, a race, a drawing, or the writing of bytes.
     Run(RunFault),
     /// What ended a script with notes.
-    Told(ToldFault),
+    Noted(NotedFault),
     /// So many lines of a strict run were refused.
     Refused(usize),
     /// Why bytes weren't shown.
@@ -34,7 +34,7 @@ pub enum Failure<'a> {
     /// Of so many lines of a script something else is expected than they print.
     Unmet(usize),
     /// Nobody reads what is written any more, so that isn't told.
-    Unread,
+    OutputClosed,
 }
 
 impl Failure<'_> {
@@ -44,7 +44,7 @@ impl Failure<'_> {
     {
         match self {
             Failure::Run(fault) => fault.status(),
-            Failure::Told(fault) => fault.status(),
+            Failure::Noted(fault) => fault.status(),
             Failure::Refused(_) => 1,
             Failure::Show(fault) => fault.status(),
             Failure::UnknownName(_) => 1,
@@ -53,7 +53,7 @@ impl Failure<'_> {
             Failure::NotTaken => 1,
             Failure::Differ => 1,
             Failure::Unmet(_) => 1,
-            Failure::Unread => 1,
+            Failure::OutputClosed => 1,
         }
     }
 
@@ -63,7 +63,7 @@ impl Failure<'_> {
     {
         match self {
             Failure::Run(fault) => *fault == RunFault::Write,
-            Failure::Told(told) => told.fault == RunFault::Write,
+            Failure::Noted(noted) => noted.fault == RunFault::Write,
             Failure::Show(ShowFault::Write) => true,
             _ => false,
         }
@@ -74,7 +74,7 @@ impl fmt::Display for Failure<'_> {
     fn fmt<W: fmt::Write>(&self, f: &mut fmt::Formatter<W>) -> fmt::Result {
         match self {
             Failure::Run(fault) => write!(f, "{fault}"),
-            Failure::Told(fault) => write!(f, "{fault}"),
+            Failure::Noted(fault) => write!(f, "{fault}"),
             Failure::Refused(1) => write!(f, "hgfleet: 1 line was refused"),
             Failure::Refused(count) => write!(f, "hgfleet: {count} lines were refused"),
             Failure::Show(ShowFault::Store(fault)) => {
@@ -90,7 +90,7 @@ impl fmt::Display for Failure<'_> {
             Failure::Differ => write!(f, "hgfleet: the repositories differ"),
             Failure::Unmet(1) => write!(f, "hgfleet: 1 line differs"),
             Failure::Unmet(count) => write!(f, "hgfleet: {count} lines differ"),
-            Failure::Unread => Ok(()),
+            Failure::OutputClosed => Ok(()),
         }
     }
 }
@@ -116,13 +116,13 @@ impl From<RunFault> for Failure<'_> {
     }
 }
 
-impl From<ToldFault> for Failure<'_> {
-    ghost use Rattle.hgfleet.specs.declared.failure.Failure.TheVariants.{Told};
+impl From<NotedFault> for Failure<'_> {
+    ghost use Rattle.hgfleet.specs.declared.failure.Failure.TheVariants.{Noted};
 
-    ghost from_gives = { λ told e. e ≡ Told told };
+    ghost from_gives = { λ noted e. e ≡ Noted noted };
 
-    fn from(told: ToldFault) -> Self {
-        Failure::Told(told)
+    fn from(noted: NotedFault) -> Self {
+        Failure::Noted(noted)
     }
 }
 

@@ -55,8 +55,8 @@ pub fn read_file<F: Files, R: Read>(
     }
 }
 
-// Whether the name stands for standard input.
-fn names_input(name: &str) -> bool
+/// Whether the name stands for standard input.
+pub(crate) fn names_input(name: &str) -> bool
     ensures { IsTrue result ↔ (name.now ≡ codes "-") }
 {
     name == "-"

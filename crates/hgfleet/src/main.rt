@@ -7,7 +7,10 @@
 #![tactic(auto)]
 
 ghost use Rattle.std.specs.Prelude.{◌≡◌, IfOk, MatchResult};
+ghost use Rattle.std.specs.Io.Buffered.{writer_buffer, writer_contents};
+ghost use Rattle.std.specs.Io.KnownBytes.{Keeps};
 ghost use Rattle.std.specs.Process.{exit_status};
+ghost use Rattle.hgfleet.specs.Answers.{IsProgramAnswer, IsFlushed};
 ghost use Rattle.hgfleet.specs.Arguments.{IsWithinBounds};
 ghost use Rattle.hgfleet.specs.Commands.{failure_status};
 
@@ -21,6 +24,7 @@ mod fates;
 mod files;
 mod node_arguments;
 mod terminal;
+mod tips;
 mod try_arguments;
 mod trying;
 
@@ -29,7 +33,7 @@ use commands::perform;
 use failure::Failure;
 use hg_script::RunFault;
 use std::env::{Env, VarError};
-use std::io::{BufWriter, ErrorKind, IsTerminal, Write};
+use std::io::{BufRead, BufWriter, ErrorKind, IsTerminal, Write};
 use std::process::ExitCode;
 use std::random::RandomSource;
 use std::rt::Files;
@@ -37,6 +41,7 @@ use std::sync::Wait;
 use std::thread::Threads;
 use std::{env, io};
 use terminal::{invitation, objection};
+use tips::file_tip;
 
 fn main(rt: HostRuntime) -> ExitCode {
     match read_wanted(&rt) {
@@ -50,16 +55,28 @@ fn main(rt: HostRuntime) -> ExitCode {
                     invite(&rt, &wanted);
                 }
                 let is_coloured = takes_colours(&rt, rt.stdout().is_terminal());
-                let mut told = Vec::new(rt.alloc());
-                let done = answer(&rt, &wanted, is_coloured, &mut told);
-                // What is shown stands where it can't be told what it is without.
-                let _ = rt.stderr().write_all(&told);
-                finish(&rt, done)
+                match BufWriter::new(rt.alloc(), io::writer(&rt)) {
+                    Ok(mut writer) => {
+                        let mut reader = rt.reader();
+                        answer(
+                            &rt,
+                            &wanted,
+                            is_coloured,
+                            &mut reader,
+                            &mut writer,
+                            &rt.stderr(),
+                        )
+                    }
+                    Err(_) => finish(&rt.stderr(), Err(Failure::Run(RunFault::NoMemory))),
+                }
             }
         },
         Err(fault) => {
             // The status says what was wrong, also where the text can't be written.
             let _ = eprint!(rt; "{fault}");
+            if let Some(tip) = file_tip(&rt) {
+                let _ = eprintln!(rt; "{tip}");
+            }
             ExitCode::from(fault.status())
         }
     }
@@ -87,49 +104,82 @@ fn is_set(rt: &(impl Env + AllocGlobal), name: &str) -> bool {
     }
 }
 
-// Does what is wanted, from standard input to standard output. What is told of refused lines is put into the text.
-fn answer<'a>(
-    rt: &(impl Print + Input + AllocGlobal + RandomSource + Files + Threads + Wait + Sync),
-    wanted: &'a Wanted,
+// Does what is wanted, from a reader to a writer. Why lines were refused, and what failed, goes to the other stream;
+// where it can't be written there, the status is the same.
+fn answer<
+    H: AllocGlobal + RandomSource + Files + Threads + Wait + Sync,
+    R: BufRead,
+    W: Write + Drop,
+    E: Print,
+>(
+    rt: &H,
+    wanted: &Wanted,
     is_coloured: bool,
-    told: &mut Vec<u8>,
-) -> Result<(), Failure<'a>>
+    reader: &mut R,
+    writer: &mut BufWriter<W>,
+    errors: &E,
+) -> ExitCode
     requires { IsWithinBounds wanted.now }
+    ensures { IsProgramAnswer wanted.now is_coloured (R.remaining reader.old) (R.remaining reader.new)
+        (writer_contents W.contents writer.old) (writer_contents W.contents writer.new) (writer_buffer writer.new)
+        (exit_status result) }
 {
-    let mut writer = match BufWriter::new(rt.alloc(), io::writer(rt)) {
-        Ok(writer) => writer,
-        Err(_) => return Err(Failure::Run(RunFault::NoMemory)),
-    };
-    let done = perform(rt, wanted, is_coloured, &mut rt.reader(), &mut writer, told);
+    let mut refusals = Vec::new(rt.alloc());
+    let done = perform(rt, wanted, is_coloured, reader, writer, &mut refusals);
+    let flushed = flush_behind(done, writer);
+    // What is shown stands where it can't be told what it is without.
+    let _ = errors.write_all(&refusals);
+    finish(errors, flushed)
+}
+
+// Hands on what waits in the buffer behind a command that ended so.
+fn flush_behind<'a, W: Write + Drop>(
+    done: Result<(), Failure<'a>>,
+    writer: &mut BufWriter<W>,
+) -> Result<(), Failure<'a>>
+    ensures stays { Keeps (writer_contents W.contents writer.old) (writer_contents W.contents writer.new) }
+    ensures flushed { IsFlushed done.entry (writer_buffer writer.new) result }
+{
     match writer.flush() {
         Ok(()) => done,
-        Err(error) => {
-            if error.kind() == ErrorKind::BrokenPipe && is_only_unwritten(&done) {
-                return Err(Failure::Unread);
+        Err(error) => Err(unflushed(done, error.kind() == ErrorKind::BrokenPipe)),
+    }
+}
+
+// Why a command failed that ended so, where what waited in the buffer couldn't be written. Where nobody reads it any
+// more, and nothing else went wrong, that isn't told.
+#[tactic(auto, using(crate::proofs::FlushLemmas::write_status))]
+fn unflushed<'a>(done: Result<(), Failure<'a>>, is_closed: bool) -> Failure<'a>
+    ensures { MatchResult done.entry (λ _. failure_status result ≡ 1)
+        (λ failure. failure_status result ≡ failure_status failure) }
+{
+    match done {
+        Ok(()) => {
+            if is_closed {
+                Failure::OutputClosed
+            } else {
+                Failure::Run(RunFault::Write)
             }
-            done.and(Err(Failure::Run(RunFault::Write)))
+        }
+        Err(failure) => {
+            if is_closed && failure.is_unwritten() {
+                return Failure::OutputClosed;
+            }
+            failure
         }
     }
 }
 
-// Whether nothing but the writing of a text ended the command, if anything did.
-fn is_only_unwritten(done: &Result<(), Failure<'_>>) -> bool {
-    match done {
-        Ok(()) => true,
-        Err(failure) => failure.is_unwritten(),
-    }
-}
-
 // The status of a command, after its failure was told. One that can't be written leaves the status as it is.
-fn finish(rt: &impl Eprint, done: Result<(), Failure<'_>>) -> ExitCode
+fn finish<E: Print>(errors: &E, done: Result<(), Failure<'_>>) -> ExitCode
     ensures { MatchResult done.entry (λ _. exit_status result ≡ 0)
         (λ failure. exit_status result ≡ failure_status failure) }
 {
     match done {
         Ok(()) => ExitCode::SUCCESS,
-        Err(Failure::Unread) => ExitCode::from(1),
+        Err(Failure::OutputClosed) => ExitCode::from(1),
         Err(failure) => {
-            let _ = eprintln!(rt; "{failure}");
+            let _ = println!(errors; "{failure}");
             ExitCode::from(failure.status())
         }
     }

@@ -8,8 +8,8 @@ ghost use Rattle.hgfleet.specs.TryArguments.{words_given};
 ghost use Rattle.hgfleet.specs.Builders.{IsCommand};
 
 use crate::arguments::{
-    Picture, Wanted, command_of, flag_of, mistake, number_argument, number_of, value_argument,
-    with_argument, with_flag, words_of,
+    EXPLAINED, Picture, Wanted, command_of, flag_of, mistake, number_argument, number_of,
+    value_argument, with_argument, with_flag, words_of,
 };
 use crate::try_arguments::words_argument;
 use clap::error::ErrorKind;
@@ -28,7 +28,7 @@ Lines lead from it to its parents. Beside it stand its short id, its label, its 
 an obsolete one what it was rewritten to. With --dot the same is a graph in the language of Graphviz, with --json an
 array that has an object for each changeset. With --at it is drawn as it is behind that line of the script, and what
 stands below isn't done. At a terminal ids and instabilities have colours, unless NO_COLOR is set. Lines that were
-refused are told on standard error.
+refused are explained on standard error.
 
 Statuses: 0 done, 1 a script that ended early, leaves no such name or has fewer lines,
 or a text that can't be written, 2 wrong arguments, 3 want of memory.
@@ -45,7 +45,8 @@ unstable; where none is named, of every node. Each unstable changeset has its na
   phase-divergent         from which public changeset it was made
   content-divergent       with which changesets, and from which one all of them come
 Below an orphan stands the line of a script that moves it to where its parent went, where there is such a changeset.
-Divergence ends where all of these changesets but one are pruned. Lines that were refused are told on standard error.
+Divergence ends where all of these changesets but one are pruned. Lines that were refused are explained on standard
+error.
 
 Statuses: 0 done, 1 a script that ended early or leaves no such name, or a text that
 can't be written, 2 wrong arguments, 3 want of memory.
@@ -59,7 +60,7 @@ Does the script of standard input, and then tells of each changeset whose label 
 that knows of it, as it is at the end: a line with the sets of changesets that stand in its place, as
   fate of feature at alice: {feature-bob} or {feature-alice}
 A changeset that wasn't rewritten stands in its own place; where none does, it was pruned. A node knows of what it holds
-and of what its markers rewrote. Lines that were refused are told on standard error.
+and of what its markers rewrote. Lines that were refused are explained on standard error.
 
 Statuses: 0 done, 1 a script that ended early or gives no such label, or a text that
 can't be written, 2 wrong arguments, 3 want of memory.
@@ -93,7 +94,8 @@ fn log_with_flags<'a>(alloc: Global) -> Result<Command<'a>, AllocError>
         "dot",
         "Prints a graph in the language of Graphviz",
     );
-    with_flag(alloc, log, "json", "Prints an array of JSON")
+    let log = with_flag(alloc, log, "json", "Prints an array of JSON");
+    with_flag(alloc, log, "explain", EXPLAINED)
 }
 
 // The line behind which histories are drawn.
@@ -131,9 +133,10 @@ pub(crate) fn why<'a>(alloc: Global) -> Result<Command<'a>, AllocError>
         "why",
         "Tells why changesets of a script's nodes are unstable",
         WHY_HELP,
-        "hgfleet why [NODE]... < SCRIPT",
+        "hgfleet why [OPTIONS] [NODE]... < SCRIPT",
     );
-    with_argument(Ok(why), nodes_argument(alloc))
+    let why = with_flag(alloc, Ok(why), "explain", EXPLAINED);
+    with_argument(why, nodes_argument(alloc))
 }
 
 /// The command that tells the fates of changesets, with their labels.
@@ -145,10 +148,11 @@ pub(crate) fn fate<'a>(alloc: Global) -> Result<Command<'a>, AllocError>
         "fate",
         "Tells what became of changesets at a script's nodes",
         FATE_HELP,
-        "hgfleet fate <LABEL>... < SCRIPT",
+        "hgfleet fate [OPTIONS] <LABEL>... < SCRIPT",
     );
+    let fate = with_flag(alloc, Ok(fate), "explain", EXPLAINED);
     with_argument(
-        Ok(fate),
+        fate,
         words_argument(alloc, "labels", "LABEL", "The changesets that are meant"),
     )
 }

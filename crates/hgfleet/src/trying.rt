@@ -5,10 +5,12 @@ ghost use Rattle.hg_log.specs.Objects.{named};
 ghost use Rattle.hg_preview.specs.Answers.{texts_of};
 ghost use Rattle.hg_replica.specs.State.{nothing_held};
 ghost use Rattle.hg_trial.specs.Trials.{AnswersTo, IsLeastOfTaken};
-ghost use Rattle.hgfleet.specs.Trying.{AreTaken, AreTold, EndsCompared, EndsComparison, EndsTrial, IsAccount};
-ghost use Rattle.hgfleet.specs.Trying.{IsComparison, IsShownOf, IsTakenOne, IsTakenTrial, IsUnread, IsUnreadAmong};
-ghost use Rattle.hgfleet.specs.Trying.{IsTargetUnwritten, IsUnwritten, WholeAnswer, standing, tells_answers};
+ghost use Rattle.hgfleet.specs.Trying.{AreAnswersTold, AreMessagesTaken, EndsCompared, EndsComparison, EndsTrial};
+ghost use Rattle.hgfleet.specs.Trying.{IsAccount, IsComparison, IsMessageTaken, IsShownOf, IsTakenTrial};
+ghost use Rattle.hgfleet.specs.Trying.{IsTargetUnwritten, IsUnread, IsUnreadAmong, IsUnwritten, WholeAnswer};
+ghost use Rattle.hgfleet.specs.Trying.{standing, tells_answers};
 
+use crate::commands::secret_keys;
 use crate::drawing::{Drawing, draw};
 use crate::failure::Failure;
 use crate::files::{FileFault, read_file};
@@ -24,15 +26,15 @@ use hg_why::Remedy;
 use std::alloc::{AllocError, Global};
 use std::fs;
 use std::io::{Read, Write, sink};
+use std::random::RandomSource;
 use std::rt::Files;
 
 /// Takes the messages of files one after the other into what holds nothing, and writes the account that is wanted, a
 /// history with colours where the writer takes them. All files are read before anything is written; the name `-` stands
 /// for what the reader has. Where a target is named, a message of all that stands then is written to the file of that
 /// name, also where a message was refused.
-pub fn try_files<'a, H: AllocGlobal + Files, R: Read, W: Write>(
+pub fn try_files<'a, H: AllocGlobal + RandomSource + Files, R: Read, W: Write>(
     rt: &H,
-    keys: IdKeys,
     wanted: &'a WantedTrial,
     is_coloured: bool,
     reader: &mut R,
@@ -41,6 +43,7 @@ pub fn try_files<'a, H: AllocGlobal + Files, R: Read, W: Write>(
     ensures done { OnOk result (IsTakenTrial wanted.entry.now (W.contents writer.old) (W.contents writer.new)) }
     ensures failed { IfErr result (EndsTrial wanted.entry.now (W.contents writer.old) (W.contents writer.new)) }
 {
+    let keys = secret_keys(rt)?;
     match read_files(rt.alloc(), rt, &wanted.files, reader) {
         Ok(contents) => try_contents(rt, keys, wanted, &contents, is_coloured, writer),
         Err(failure) => Err(failure),
@@ -106,7 +109,7 @@ fn take_messages<W: Write>(
     ensures answers { IfOk result (λ tried. AnswersTo nothing_held (texts_of messages.now) tried.answers.items
         tried.trial) }
     ensures least { IfOk result (λ tried. IsLeastOfTaken (texts_of messages.now) tried.answers.items tried.trial) }
-    ensures written { IfOk result (λ tried. (text : List ℕ) × AreTold account tried.answers.items text
+    ensures written { IfOk result (λ tried. (text : List ℕ) × AreAnswersTold account tried.answers.items text
         × Appends (W.contents writer.old) (W.contents writer.new) text) }
 {
     if tells_answers(account) {
@@ -269,7 +272,7 @@ fn messages_of<'a>(
 
 // Whether each message was taken.
 fn are_taken(answers: &[Answer]) -> bool
-    ensures { IsTrue result ↔ AreTaken answers.now }
+    ensures { IsTrue result ↔ AreMessagesTaken answers.now }
 {
     for answer in answers {
         if !is_taken(answer) {
@@ -280,7 +283,7 @@ fn are_taken(answers: &[Answer]) -> bool
 }
 
 fn is_taken(answer: &Answer) -> bool
-    ensures { IsTrue result ↔ IsTakenOne answer.now }
+    ensures { IsTrue result ↔ IsMessageTaken answer.now }
 {
     match answer {
         Answer::Taken { .. } => true,
@@ -289,9 +292,8 @@ fn is_taken(answer: &Answer) -> bool
 }
 
 /// Writes in what the repositories of two files of messages differ.
-pub fn compare_files<'a, H: AllocGlobal + Files, R: Read, W: Write>(
+pub fn compare_files<'a, H: AllocGlobal + RandomSource + Files, R: Read, W: Write>(
     rt: &H,
-    keys: IdKeys,
     first: &'a str,
     second: &'a str,
     reader: &mut R,
@@ -302,6 +304,7 @@ pub fn compare_files<'a, H: AllocGlobal + Files, R: Read, W: Write>(
         (W.contents writer.new)) }
 {
     let alloc = rt.alloc();
+    let keys = secret_keys(rt)?;
     let mine = match read_named(alloc, rt, first, reader) {
         Ok(bytes) => bytes,
         Err(failure) => return Err(failure),

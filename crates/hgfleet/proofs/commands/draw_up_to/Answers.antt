@@ -8,7 +8,7 @@ returns-in-Some-clause-drawn g c =
     let held = g.W.Write.contents c.args.writer.now in
     let holds = g.W.Write.contents c.draw_front.new.writer in
     subst (λ (line : Option ℕ). OnOk c.draw_front.result (DrawsUpTo line c.args.nodes.now c.args.overview known held
-    holds c.args.told.now.items c.draw_front.new.told.items)) (sym c.in-Some.is) c.draw_front.ensures.drawn
+    holds c.args.refusals.now.items c.draw_front.new.refusals.items)) (sym c.in-Some.is) c.draw_front.ensures.drawn
 
 pub returns-in-Some-clause-failed : goal.returns-in-Some-clause-failed
 returns-in-Some-clause-failed g c =
@@ -16,7 +16,7 @@ returns-in-Some-clause-failed g c =
     let held = g.W.Write.contents c.args.writer.now in
     let holds = g.W.Write.contents c.draw_front.new.writer in
     subst (λ (line : Option ℕ). IfErr c.draw_front.result (EndsUpTo line c.args.nodes.now known held holds
-    c.args.told.now.items c.draw_front.new.told.items)) (sym c.in-Some.is) c.draw_front.ensures.failed
+    c.args.refusals.now.items c.draw_front.new.refusals.items)) (sym c.in-Some.is) c.draw_front.ensures.failed
 
 pub returns-in-None-clause-drawn : goal.returns-in-None-clause-drawn
 returns-in-None-clause-drawn g c =
@@ -24,7 +24,7 @@ returns-in-None-clause-drawn g c =
     let held = g.W.Write.contents c.args.writer.now in
     let holds = g.W.Write.contents c.draw_script.new.writer in
     subst (λ (line : Option ℕ). OnOk c.draw_script.result (DrawsUpTo line c.args.nodes.now c.args.overview known held
-    holds c.args.told.now.items c.draw_script.new.told.items)) (sym c.in-None.is) c.draw_script.ensures.drawn
+    holds c.args.refusals.now.items c.draw_script.new.refusals.items)) (sym c.in-None.is) c.draw_script.ensures.drawn
 
 pub returns-in-None-clause-failed : goal.returns-in-None-clause-failed
 returns-in-None-clause-failed g c =
@@ -32,4 +32,4 @@ returns-in-None-clause-failed g c =
     let held = g.W.Write.contents c.args.writer.now in
     let holds = g.W.Write.contents c.draw_script.new.writer in
     subst (λ (line : Option ℕ). IfErr c.draw_script.result (EndsUpTo line c.args.nodes.now known held holds
-    c.args.told.now.items c.draw_script.new.told.items)) (sym c.in-None.is) c.draw_script.ensures.failed
+    c.args.refusals.now.items c.draw_script.new.refusals.items)) (sym c.in-None.is) c.draw_script.ensures.failed

@@ -1,5 +1,5 @@
 use Rattle.std.proofs.Common.{◌∙◌, ap, length, subst, sym, true≢false}
-use Rattle.hgfleet.specs.Trying.{AreTaken}
+use Rattle.hgfleet.specs.Trying.{AreMessagesTaken}
 use Rattle.hgfleet.proofs.TryingLemmas.{trial_told, unwritten_ends_trial}
 use Rattle.hgfleet.proofs.trying.try_contents.Goals as goal
 
@@ -9,7 +9,7 @@ returns-then-are_taken-clause-done g c = (
   trial_told c.args.wanted.now c.in_ok-messages.messages.items c.deref-2.result.now c.in_ok-tried.tried.answers.items
       c.in_ok-tried.tried.trial _ _ (c.in_ok-messages.ensures ∙ ap length c.deref.ensures.value) c.deref-2.ensures.value
       c.in_ok-tried.ensures.answers c.in_ok-tried.ensures.least c.in_ok-tried.ensures.written,
-  subst AreTaken c.deref-3.ensures.value (c.are_taken.ensures.0 c.if-are_taken.true),
+  subst AreMessagesTaken c.deref-3.ensures.value (c.are_taken.ensures.0 c.if-are_taken.true),
 )
 
 pub returns-clause-failed : goal.returns-clause-failed
@@ -19,7 +19,7 @@ returns-clause-failed g c = (
       c.in_ok-tried.tried.trial _ _ (c.in_ok-messages.ensures ∙ ap length c.deref.ensures.value) c.deref-2.ensures.value
       c.in_ok-tried.ensures.answers c.in_ok-tried.ensures.least c.in_ok-tried.ensures.written,
   λ taken. true≢false
-      (sym (c.are_taken.ensures.1 (subst AreTaken (sym c.deref-3.ensures.value) taken)) ∙ c.if-are_taken.false),
+      (sym (c.are_taken.ensures.1 (subst AreMessagesTaken (sym c.deref-3.ensures.value) taken)) ∙ c.if-are_taken.false),
 )
 
 pub returns-in-Err-clause-failed : goal.returns-in-Err-clause-failed
