@@ -9,7 +9,7 @@ use hg_fleet::{Fleet, Scope};
 use hg_join::NoMemory;
 use hg_replica::IdKeys;
 use hg_rewrite::Op;
-use hg_world::{Answer, Event};
+use hg_world::Answer;
 use std::alloc::{AllocError, AllocFailed, Global};
 use std::collections::{BTreeMap, BTreeSet};
 use std::io;
@@ -127,7 +127,7 @@ fn amend(
 
 // A peer decides an operation and absorbs its part. The new changeset's id.
 fn operate(fleet: &mut Fleet, at: usize, op: Op) -> Result<Node, Stop> {
-    match fleet.run_one(&Event::Local { at, op })? {
+    match fleet.local(at, op) {
         Answer::Accepted(change) => change.added.first().copied().ok_or(Stop::Refused),
         _ => Err(Stop::Refused),
     }
