@@ -1,6 +1,6 @@
 //! Pictures of small histories that no script leaves, drawn by hand by Mercurial's rules, and one of them as Graphviz
-//! reads it. Those of scripts are drawn by cases of `examples/`. The ids are the SHA-1 of parents and labels.
-use crate::scene::{commit, rewrite};
+//! reads it. Those of scripts are drawn by cases of `examples/`. The ids are the SHA-1 of parents and texts.
+use crate::scene::{commit, described, rewrite};
 use hg_changeset::Node;
 use hg_log::{Look, NamedNode, draw_graphs, draw_log};
 use hg_phases::Phase;
@@ -30,7 +30,7 @@ const COLOURED: Look = Look {
 
 // Takes in a draft on another changeset.
 fn draft(alloc: Global, replica: &mut Replica, parent: Node, label: &[u8]) -> Option<Node> {
-    commit(alloc, replica, parent, label, Phase::Draft)
+    described(alloc, replica, parent, label, Phase::Draft)
 }
 
 // Takes in the marker that an operation rewrote a node to others.
@@ -63,18 +63,18 @@ fn what_became_of_one_changeset_takes_a_line_for_each_marker(rt: HostRuntime) {
     let alloc = rt.alloc();
     let mut replica = Replica::new(alloc);
     rewritten_twice(alloc, &mut replica).expect(&rt, "memory");
-    let picture = b"*  eb1b27e51f83 h0 draft orphan\n\
+    let picture = b"*  d20b84da5be5 h0 draft orphan\n\
             |\n\
-            | o  e05ae60bee7a h1 draft\n\
+            | o  b969e4717c3f h1 draft\n\
             | |\n\
-            | | o  6c8a085eeb5c h2 draft\n\
+            | | o  65457b0983b8 h2 draft\n\
             | | |\n\
-            x---+  b45e3757fab8 n draft\n  \
+            x---+  1908e2e0e13e n draft\n  \
             | |  pruned\n \
             / /   amended as 111111111111\n\
-            o /  58bc77893abd p draft\n \
+            o /  498bf646f11c p draft\n \
             /\n\
-            o  9432a39b05bc q draft\n\
+            o  dcebe5006424 q draft\n\
             \n";
     expect(&rt, alloc, replica, VISIBLE, picture);
 }
@@ -95,15 +95,15 @@ fn columns_go_on_beside_a_tall_text(rt: HostRuntime) {
     let alloc = rt.alloc();
     let mut replica = Replica::new(alloc);
     divergent(alloc, &mut replica).expect(&rt, "memory");
-    let picture = b"*  5a152ad92850 y draft content-divergent\n\
+    let picture = b"*  da18743c66de y draft content-divergent\n\
             |\n\
-            | *  9cfa07613306 x draft content-divergent\n\
+            | *  4c7015dcde37 x draft content-divergent\n\
             |/\n\
-            | #  544d83e6863f b draft\n\
+            | #  80984185711b b draft\n\
             |/   amended as x\n\
             |    amended as y\n\
             |    rewritten as 111111111111\n\
-            o  047b75c6d7a3 a draft\n\
+            o  f96ca39738e6 a draft\n\
             \n";
     expect(&rt, alloc, replica, WHOLE, picture);
 }
@@ -113,15 +113,15 @@ fn ids_are_yellow_and_what_is_unstable_is_red(rt: HostRuntime) {
     let alloc = rt.alloc();
     let mut replica = Replica::new(alloc);
     divergent(alloc, &mut replica).expect(&rt, "memory");
-    let picture = b"*  \x1b[0;33m5a152ad92850\x1b[0m y draft \x1b[0;31mcontent-divergent\x1b[0m\n\
+    let picture = b"*  \x1b[0;33mda18743c66de\x1b[0m y draft \x1b[0;31mcontent-divergent\x1b[0m\n\
             |\n\
-            | *  \x1b[0;33m9cfa07613306\x1b[0m x draft \x1b[0;31mcontent-divergent\x1b[0m\n\
+            | *  \x1b[0;33m4c7015dcde37\x1b[0m x draft \x1b[0;31mcontent-divergent\x1b[0m\n\
             |/\n\
-            | #  \x1b[0;33m544d83e6863f\x1b[0m b draft\n\
+            | #  \x1b[0;33m80984185711b\x1b[0m b draft\n\
             |/   amended as x\n\
             |    amended as y\n\
             |    rewritten as \x1b[0;33m111111111111\x1b[0m\n\
-            o  \x1b[0;33m047b75c6d7a3\x1b[0m a draft\n\
+            o  \x1b[0;33mf96ca39738e6\x1b[0m a draft\n\
             \n";
     expect(&rt, alloc, replica, COLOURED, picture);
 }
@@ -130,8 +130,19 @@ fn ids_are_yellow_and_what_is_unstable_is_red(rt: HostRuntime) {
 fn what_isnt_printed_of_a_label_is_escaped(rt: HostRuntime) {
     let alloc = rt.alloc();
     let mut replica = Replica::new(alloc);
-    draft(alloc, &mut replica, Node::NULL, b"first\n\"\\\t\xff").expect(&rt, "memory");
-    let picture = b"o  e92259e19409 \\\"\\\\\\t\\xff draft\n\
+    draft(alloc, &mut replica, Node::NULL, b"\"\\\t\xff\nsecond").expect(&rt, "memory");
+    let picture = b"o  793f2d5a9116 \\\"\\\\\\t\\xff draft\n\
+            \n";
+    expect(&rt, alloc, replica, VISIBLE, picture);
+}
+
+#[test]
+fn text_that_is_no_entry_gives_no_label(rt: HostRuntime) {
+    let alloc = rt.alloc();
+    let mut replica = Replica::new(alloc);
+    let opaque = b"opaque\n\0";
+    commit(alloc, &mut replica, Node::NULL, opaque, Phase::Draft).expect(&rt, "memory");
+    let picture = b"o  d746985e8832 draft\n\
             \n";
     expect(&rt, alloc, replica, VISIBLE, picture);
 }
@@ -139,7 +150,7 @@ fn what_isnt_printed_of_a_label_is_escaped(rt: HostRuntime) {
 // One whose label is hard to quote was pruned, and what isn't held was rewritten to another that isn't either.
 fn pruned(alloc: Global, other: Node) -> Option<Kept> {
     let mut replica = Replica::new(alloc);
-    let old = draft(alloc, &mut replica, Node::NULL, b"first\n\"\\\t\xff")?;
+    let old = draft(alloc, &mut replica, Node::NULL, b"\"\\\t\xff\nsecond")?;
     mark(alloc, &mut replica, b"prune", old, &[])?;
     mark(alloc, &mut replica, b"amend", ELSEWHERE, &[other])?;
     Kept::new(alloc, replica).ok()
@@ -158,11 +169,11 @@ const QUOTED: &[u8] = b"digraph fleet {
     node [shape=box];
     subgraph \"cluster_A\" {
         label=\"A\";
-        \"A e92259e19409\" [label=\"e92259e19409\\n\\\\\\\"\\\\\\\\\\\\t\\\\xff\\ndraft\", \
+        \"A 793f2d5a9116\" [label=\"793f2d5a9116\\n\\\\\\\"\\\\\\\\\\\\t\\\\xff\\ndraft\", \
             color=gray, style=\"dashed,diagonals\"];
         \"A 111111111111\" [label=\"111111111111\\nnot held\", style=dotted];
-        \"A 9432a39b05bc\" [label=\"9432a39b05bc\\nq\\nnot held\", style=dotted];
-        \"A 111111111111\" -> \"A 9432a39b05bc\" [style=dashed, constraint=false, label=\"amended\"];
+        \"A dcebe5006424\" [label=\"dcebe5006424\\nq\\nnot held\", style=dotted];
+        \"A 111111111111\" -> \"A dcebe5006424\" [style=dashed, constraint=false, label=\"amended\"];
     }
 ";
 

@@ -1,5 +1,5 @@
 //! Changesets and markers for a replica to take in. `None` where memory ran out.
-use hg_changeset::{Changeset, Entry, Node};
+use hg_changeset::{Changeset, Entry, Node, entry_text};
 use hg_marker::{Marker, TextMap};
 use hg_phases::Phase;
 use hg_replica::{Bounds, Part, Replica};
@@ -48,6 +48,18 @@ pub fn commit(
     part.bounds.push((node, phase)).ok()?;
     replica.absorb_owned(part).ok()?;
     Some(node)
+}
+
+/// Takes in a changeset with this description.
+pub fn described(
+    alloc: Global,
+    replica: &mut Replica,
+    parent: Node,
+    description: &[u8],
+    phase: Phase,
+) -> Option<Node> {
+    let text = entry_text(alloc, &entry(alloc, description)?).ok()?;
+    commit(alloc, replica, parent, &text, phase)
 }
 
 /// Takes in the marker that a node was rewritten to others, or pruned, with a pair of its metadata.

@@ -1,6 +1,6 @@
 //! What is told of unstable changesets, by blocks written by hand. The ids are the SHA-1 of parents and texts.
-use crate::scene::{commit, entry, rewrite};
-use hg_changeset::{Node, entry_text};
+use crate::scene::{commit, described, rewrite};
+use hg_changeset::Node;
 use hg_phases::Phase;
 use hg_replica::Replica;
 use hg_view::Kept;
@@ -9,18 +9,6 @@ use std::alloc::Global;
 
 // An id under which nothing is held.
 const ELSEWHERE: Node = Node([0x11; 20]);
-
-// Takes in a changeset with this description.
-fn described(
-    alloc: Global,
-    replica: &mut Replica,
-    parent: Node,
-    description: &[u8],
-    phase: Phase,
-) -> Option<Node> {
-    let text = entry_text(alloc, &entry(alloc, description)?).ok()?;
-    commit(alloc, replica, parent, &text, phase)
-}
 
 // Takes in the marker that a node was amended to the other.
 fn amend(alloc: Global, replica: &mut Replica, old: Node, new: Node) -> Option<()> {
