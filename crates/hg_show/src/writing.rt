@@ -35,6 +35,10 @@ pub fn write_roots<W: Write>(kept: &Kept, writer: &mut W) -> Result<(), WriteFau
     write_bytes(&text, writer)
 }
 
+// How many bytes are written at once: a writer with a buffer then still has those that can't be handed on, and its next
+// flush tells why.
+const PIECE: usize = 4096;
+
 /// Writes bytes as they are.
 ///
 /// After a fault a front of them may be written.
@@ -42,8 +46,11 @@ pub fn write_bytes<W: Write>(bytes: &[u8], writer: &mut W) -> Result<(), WriteFa
     ensures ok { OnOk result (Appends (W.contents writer.old) (W.contents writer.new) bytes.now) }
     ensures err { IfErr result (λ fault. fault ≡ WriteFault.Write) }
 {
-    match writer.write_all(bytes) {
-        Ok(()) => Ok(()),
-        Err(_) => Err(WriteFault::Write),
+    for piece in bytes.chunks(PIECE) {
+        match writer.write_all(piece) {
+            Ok(()) => {}
+            Err(_) => return Err(WriteFault::Write),
+        }
     }
+    Ok(())
 }

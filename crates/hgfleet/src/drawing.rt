@@ -4,6 +4,7 @@ ghost use Rattle.std.specs.Io.KnownBytes.{Appends};
 ghost use Rattle.hgfleet.specs.Drawings.{IsDrawing, IsHistory, gap_behind, log_heading};
 
 use hg_log::{DrawFault, Look, draw_log};
+use hg_show::write_bytes;
 use hg_view::Kept;
 use hg_why::{Remedy, write_why};
 use std::alloc::Global;
@@ -64,7 +65,7 @@ fn write_heading<W: Write>(alloc: Global, name: &[u8], writer: &mut W) -> Result
 pub fn write_drawn<W: Write>(bytes: &[u8], writer: &mut W) -> Result<(), DrawFault>
     ensures { OnOk result (Appends (W.contents writer.old) (W.contents writer.new) bytes.now) }
 {
-    match writer.write_all(bytes) {
+    match write_bytes(bytes, writer) {
         Ok(()) => Ok(()),
         Err(_) => Err(DrawFault::Write),
     }
