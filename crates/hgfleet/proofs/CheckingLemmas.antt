@@ -67,6 +67,7 @@ check_ends fills known held holds text outputs checked printed of_it (failed.Not
 check_ends fills known held holds text outputs checked printed of_it (failed.Refused count) ends = absurd ends
 check_ends fills known held holds text outputs checked printed of_it (failed.Show fault) ends = absurd ends
 check_ends fills known held holds text outputs checked printed of_it (failed.UnknownName name) ends = absurd ends
+check_ends fills known held holds text outputs checked printed of_it (failed.UnknownNode name nodes) ends = absurd ends
 check_ends fills known held holds text outputs checked printed of_it (failed.FewLines count) ends = absurd ends
 check_ends fills known held holds text outputs checked printed of_it (failed.File name fault) ends = absurd ends
 check_ends fills known held holds text outputs checked printed of_it failed.NotTaken ends = absurd ends

@@ -17,6 +17,7 @@ write_status (failed.Noted noted) is = rw is refl
 write_status (failed.Show fault) is = rw is refl
 write_status (failed.Refused count) is = absurd is
 write_status (failed.UnknownName name) is = absurd is
+write_status (failed.UnknownNode name nodes) is = absurd is
 write_status (failed.FewLines count) is = absurd is
 write_status (failed.File name fault) is = absurd is
 write_status (failed.Unmet count) is = absurd is

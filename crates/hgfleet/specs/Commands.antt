@@ -52,8 +52,8 @@ use Rattle.hgfleet.specs.declared.drawing.Drawing.TheVariants as drawn
 use Rattle.hgfleet.specs.declared.drawing.Drawing.TheVariants.{Log}
 use Rattle.hgfleet.specs.declared.failure.Failure.{Failure}
 use Rattle.hgfleet.specs.declared.failure.Failure.TheVariants as failed
-use Rattle.hgfleet.specs.declared.failure.Failure.TheVariants.{Noted, Refused, UnknownName, OutputClosed, Differ}
-use Rattle.hgfleet.specs.declared.failure.Failure.TheVariants.{File, FewLines, NotTaken, Unmet}
+use Rattle.hgfleet.specs.declared.failure.Failure.TheVariants.{Noted, Refused, UnknownName, UnknownNode, OutputClosed}
+use Rattle.hgfleet.specs.declared.failure.Failure.TheVariants.{Differ, File, FewLines, NotTaken, Unmet}
 use Rattle.hgfleet.specs.Arguments.{texts_of}
 use Rattle.hgfleet.specs.Checking.{EndsCheck, IsCheck}
 use Rattle.hgfleet.specs.Drawings.{IsDrawing, gap_behind}
@@ -67,6 +67,7 @@ failure_status (Noted noted) = run_status noted.fault
 failure_status (Refused count) = 1
 failure_status (failed.Show fault) = show_status fault
 failure_status (UnknownName name) = 1
+failure_status (UnknownNode name nodes) = 1
 failure_status (FewLines count) = 1
 failure_status (File name fault) = 1
 failure_status NotTaken = 1
@@ -330,6 +331,9 @@ EndsAfterScript known IsUnknown held holds before after (failed.Run fault) =
 EndsAfterScript known IsUnknown held holds before after (Noted noted) =
     IsToldStop known noted.fault before after × (holds ≡ held)
 EndsAfterScript known IsUnknown held holds before after (UnknownName name) =
+    ((fleet : Fleet) × IsLeftFleet known fleet × TellsRefused known fleet before after × IsUnknown fleet name.now)
+    × (holds ≡ held)
+EndsAfterScript known IsUnknown held holds before after (UnknownNode name nodes) =
     ((fleet : Fleet) × IsLeftFleet known fleet × TellsRefused known fleet before after × IsUnknown fleet name.now)
     × (holds ≡ held)
 EndsAfterScript known IsUnknown held holds before after _ = ⊥

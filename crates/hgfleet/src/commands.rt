@@ -304,12 +304,35 @@ fn draw_script<'a, R: Read, W: Write>(
     let alloc = rt.alloc();
     let fleet = run_for_fleet(alloc, secret_keys(rt)?, reader, refusals)?;
     match unknown_name(&fleet, nodes) {
-        Some(name) => Err(Failure::UnknownName(name)),
+        Some(name) => Err(Failure::UnknownNode(name, list_nodes(alloc, &fleet)?)),
         None => {
             draw_nodes(alloc, &fleet, nodes, overview, writer)?;
             Ok(())
         }
     }
+}
+
+// So many nodes are listed before it is said how many more there are.
+const LISTED: usize = 10;
+
+// The names of the nodes, as they are told behind an unknown one.
+fn list_nodes(alloc: Global, fleet: &Fleet) -> Result<Vec<u8>, AllocError> {
+    let names = fleet.node_names()?;
+    if names.is_empty() {
+        return Vec::from_slice(alloc, b"none");
+    }
+    let mut list = Vec::new(alloc);
+    for name in names.iter().take(LISTED) {
+        if !list.is_empty() {
+            list.extend_from_slice(b", ")?;
+        }
+        list.extend_from_slice(*name)?;
+    }
+    if names.len() > LISTED {
+        let more = names.len() - LISTED;
+        list.extend_from_slice(format!(in alloc; " and {more} more")?.as_bytes())?;
+    }
+    Ok(list)
 }
 
 // The first of these names that no node of the fleet has.
@@ -497,21 +520,22 @@ fn write<'a, R: Read, W: Write>(
     ensures failed { IfErr result (EndsAfterScript (R.remaining reader.old) (IsUnknownOf form name.entry.now)
         (W.contents writer.old) (W.contents writer.new) refusals.old.items refusals.new.items) }
 {
-    let fleet = run_for_fleet(rt.alloc(), secret_keys(rt)?, reader, refusals)?;
+    let alloc = rt.alloc();
+    let fleet = run_for_fleet(alloc, secret_keys(rt)?, reader, refusals)?;
     match form {
         Form::Store => match fleet.kept_of(name.as_bytes()) {
             Some(kept) => {
                 write_store(kept, writer)?;
                 Ok(())
             }
-            None => Err(Failure::UnknownName(name)),
+            None => Err(Failure::UnknownNode(name, list_nodes(alloc, &fleet)?)),
         },
         Form::Roots => match fleet.kept_of(name.as_bytes()) {
             Some(kept) => {
                 write_roots(kept, writer)?;
                 Ok(())
             }
-            None => Err(Failure::UnknownName(name)),
+            None => Err(Failure::UnknownNode(name, list_nodes(alloc, &fleet)?)),
         },
         Form::Message => match fleet.message_of(name.as_bytes()) {
             Some(bytes) => {

@@ -21,8 +21,10 @@ pub enum Failure<'a> {
     Refused(usize),
     /// Why bytes weren't shown.
     Show(ShowFault),
-    /// The script leaves no node, or no message, of this name.
+    /// The script leaves no changeset, or no message, of this name.
     UnknownName(&'a str),
+    /// The script leaves no node of this name; those that it leaves are listed.
+    UnknownNode(&'a str, Vec<u8>),
     /// The script has so many lines, and not the one behind which it is shown.
     FewLines(usize),
     /// The file of this name wasn't read, or written.
@@ -48,6 +50,7 @@ impl Failure<'_> {
             Failure::Refused(_) => 1,
             Failure::Show(fault) => fault.status(),
             Failure::UnknownName(_) => 1,
+            Failure::UnknownNode(_, _) => 1,
             Failure::FewLines(_) => 1,
             Failure::File(_, _) => 1,
             Failure::NotTaken => 1,
@@ -83,6 +86,13 @@ impl fmt::Display for Failure<'_> {
             }
             Failure::Show(fault) => write!(f, "{fault}"),
             Failure::UnknownName(name) => write!(f, "unknown name: {name}"),
+            Failure::UnknownNode(name, nodes) => {
+                write!(
+                    f,
+                    "unknown node: {name}; the script leaves {}",
+                    nodes.escape_ascii()
+                )
+            }
             Failure::FewLines(1) => write!(f, "hgfleet: the script has 1 line"),
             Failure::FewLines(count) => write!(f, "hgfleet: the script has {count} lines"),
             Failure::File(name, fault) => write!(f, "{name}: {fault}"),
