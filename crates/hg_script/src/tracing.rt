@@ -86,8 +86,7 @@ fn push_note(
         LineOutcome::Event { at, answer } => match answer {
             Answer::Accepted(change) => trace_change(alloc, fleet, done, *at, change, text),
             Answer::Offered(message) => {
-                push_number(alloc, done.number, text)?;
-                push_message(alloc, fleet, *message, text)
+                trace_offer(alloc, fleet, done.number, command, *message, text)
             }
             Answer::Marked => trace_mark(alloc, done.number, command, text),
             Answer::Refused(_) => Ok(()),
@@ -121,6 +120,25 @@ fn trace_change(
     push_number(alloc, done.number, text)?;
     push_change(alloc, fleet, at, change, text)?;
     push_unstable_change(alloc, fleet, at, done.before.as_ref(), text)
+}
+
+// Appends the trace of an offer: the name of the message, and its size.
+fn trace_offer(
+    alloc: Global,
+    fleet: &Fleet,
+    number: usize,
+    command: Command<'_>,
+    message: usize,
+    text: &mut Vec<u8>,
+) -> Result<(), AllocError> {
+    let name = match command {
+        Command::Offer(_, _, name, _) => name,
+        _ => return Ok(()),
+    };
+    push_number(alloc, number, text)?;
+    text.extend_from_slice(b" offered ")?;
+    text.extend_from_slice(name)?;
+    push_size(alloc, fleet, message, text)
 }
 
 // Appends the trace of a mark.
@@ -159,18 +177,6 @@ fn push_sides(command: Command<'_>, text: &mut Vec<u8>) -> Result<(), AllocError
     })?;
     text.extend_from_slice(from)?;
     text.extend_from_slice(b":")
-}
-
-// Appends the number and the size of a message.
-fn push_message(
-    alloc: Global,
-    fleet: &Fleet,
-    message: usize,
-    text: &mut Vec<u8>,
-) -> Result<(), AllocError> {
-    let size = size_of(fleet, message);
-    let shown = format!(in alloc; " message {message} of {size} bytes")?;
-    text.extend_from_slice(shown.as_bytes())
 }
 
 // Appends the size of a message in brackets.
