@@ -45,7 +45,7 @@ record IsGone (f g : Content) (sets : InstabilitySets) (n : Node) : Type 0 where
   leaf : IsLeaf g n
   rewritten : IsPredecessor g n
   current : IsCurrent f n
-  apart : IsInNoSet sets n
+  in_no_set : IsInNoSet sets n
 
 module _ (s t : ReplicaState) (change : ChangeValue) (v : IsValid s) (w : IsValid t)
     (follows : Follows (content_of s) (content_of t) change t.markers) (sets : InstabilitySets)
@@ -75,7 +75,7 @@ module _ (s t : ReplicaState) (change : ChangeValue) (v : IsValid s) (w : IsVali
   apart-or : (n : Node) → IsInNoSet sets n ⊎ IsOut n
   apart-or n = elim (side n) [
     | inl moves ↦ inl (still n moves).1
-    | inr other ↦ elim other [ inl new ↦ inl (gone n new).apart | inr out ↦ inr out ]
+    | inr other ↦ elim other [ inl new ↦ inl (gone n new).in_no_set | inr out ↦ inr out ]
   ]
 
   obsolete-as : (n : Node) → IsOut n → IsObsolete g n ↔ IsObsolete f n
@@ -119,7 +119,7 @@ module _ (s t : ReplicaState) (change : ChangeValue) (v : IsValid s) (w : IsVali
   orphan-told n held = elim (side n) [
     | inl moves ↦ let it = still n moves in neither it.1.orphan (λ h. it.0.stands h.1.0 h.1.1 h.1.2)
     | inr other ↦ elim other [
-      | inl new ↦ neither (gone n new).apart.orphan (λ h. h.0.1 (new-obsolete n new))
+      | inl new ↦ neither (gone n new).in_no_set.orphan (λ h. h.0.1 (new-obsolete n new))
       | inr out ↦ (
         λ h. let x = (orphan-by_parents s v n).0 ((at.orphan n).0 h) in (
           (current-as n out).1 x.0,
@@ -170,7 +170,7 @@ module _ (s t : ReplicaState) (change : ChangeValue) (v : IsValid s) (w : IsVali
   new-apart : (p c : Node) → IsObsolete f p → IsParentOf f p c → ¬ (IsNew c)
   new-apart p c o parent new =
       let it = gone c new in
-      it.apart.orphan ((at.orphan c).1 ((orphan-by_parents s v c).1 (it.current, (p, parent, inl o))))
+      it.in_no_set.orphan ((at.orphan c).1 ((orphan-by_parents s v c).1 (it.current, (p, parent, inl o))))
 
   over-child : (n c : Node) → IsObsolete g n → IsExtinct f n → IsParentOf g n c → IsOver c
   over-child n c o x parent = elim (side c) [
@@ -396,14 +396,14 @@ module _ (s t : ReplicaState) (change : ChangeValue) (v : IsValid t) (is : IsCha
             (mutable.0, sym same ∙ mutable.1, mutable.2),
             λ o. touched.not_rewritten-before s t change v is m one leaf.once o.1,
           );
-          apart = leaf.apart;
+          in_no_set = leaf.in_no_set;
         }
 
     quiet-marker : IsQuiet m
     quiet-marker = (
       λ h. elim h [
         | inl public ↦ phase_from_mutable After from Public public leaf.leaf.0 refl
-        | inr after ↦ leaf.apart.after_public after
+        | inr after ↦ leaf.in_no_set.after_public after
       ],
       λ h. elim h [ inl fork ↦ leaf.once fork | inr near ↦ leaf.away near ],
     )

@@ -40,14 +40,14 @@ pub record IsAway (sets : InstabilitySets) (n : Node) : Type 0 where
 abbrev pub AreStable : Content → InstabilitySets → List Node → Type 0
 AreStable g sets added = (n : Node) → Contains added n → IsStable g sets n × IsAway sets n
 
--- what was lowered is stable, and was apart from what is unstable
+-- what was lowered is stable, and was in no set of what is unstable
 abbrev pub AreUnchanged : Content → InstabilitySets → List Node → Type 0
 AreUnchanged g sets lowered = (n : Node) → Contains lowered n → IsStable g sets n × IsInNoSet sets n
 
--- what this marker rewrote, and no other did, is a leaf that was apart from what is unstable; and the marker names
+-- what this marker rewrote, and no other did, is a leaf that was in no set of what is unstable; and the marker names
 -- nothing that was near forks
 pub record IsRewrittenLeaf (t : ReplicaState) (sets : InstabilitySets) (m : Fields) : Type 0 where
   pub leaf : IsLeaf (content_of t) m.predecessor
   pub once : ¬ (IsFork t.markers m.predecessor)
-  pub apart : IsInNoSet sets m.predecessor
+  pub in_no_set : IsInNoSet sets m.predecessor
   pub away : ¬ (IsOneNear (IsNamed m) sets.near_forks)

@@ -32,9 +32,9 @@
 //! Kept from change to change: `instabilities`, the sets; `turns`, what a change turns in each; `quick`, the same by a
 //! few look-ups where these tell; `turn`, what comes to one set and goes from it. What else is asked: `seeds`, the ids
 //! that a change touched; `orphan_walk` and `extinct_walk`, by `settling`, which asks at places in the graph's order,
-//! `waiting`, the places that are still to be asked, `turned`, nodes whose answers differ, and `hints`, with which
-//! child a question begins; `after_public`, ids that newly come after something public; `near`, the region of ids that
-//! is asked again near forks, and `amend`, amends that need none.
+//! `waiting`, the places that are still to be asked, `turned`, nodes whose answers differ, and `child_hints`, with
+//! which child a question begins; `after_public`, ids that newly come after something public; `near`, the region of ids
+//! that is asked again near forks, and `amend`, amends that need none.
 #![tactic(auto)]
 
 mod after_public;

@@ -148,7 +148,7 @@ fn stands_stably(replica: &Replica, sets: &Instabilities, place: usize, node: No
     !stands_on_unstable(replica, sets.orphan(), &none, place, node)
 }
 
-// Whether all that went down is stable, and was apart from what is unstable.
+// Whether all that went down is stable, and was in no set of what is unstable.
 fn are_unchanged(replica: &Replica, sets: &Instabilities, lowered: &[Node]) -> bool
     ensures { IsTrue result → AreUnchanged (content_of replica.now) sets.now lowered.now }
 {
@@ -183,8 +183,8 @@ fn is_in_no_set(sets: &Instabilities, node: Node) -> bool
         && is_missing(sets.content_divergent(), node)
 }
 
-// Whether what stands at the place, which this marker rewrote and no other did, is a leaf that was apart from what is
-// unstable, and the marker names nothing that was near forks.
+// Whether what stands at the place, which this marker rewrote and no other did, is a leaf that was in no set of
+// what is unstable, and the marker names nothing that was near forks.
 fn is_rewritten_leaf(replica: &Replica, sets: &Instabilities, marker: &Marker, place: usize) -> bool
     requires { IsAt (changesets replica.now.history) marker.now.predecessor place }
     ensures { IsTrue result → IsRewrittenLeaf replica.now sets.now marker.now }

@@ -141,9 +141,9 @@ fn suspended_turn(
         → (n : Node) → IsThen sets.now.suspended turn n
         ↔ (IsObsolete (content_of replica.now) n × ¬ (IsNow sets.now.extinct turned.now.keys n))) }
 {
-    let mut kept = list_of(alloc, turned)?;
-    kept.extend_from_slice(obsolete)?;
-    let now = suspended_still(alloc, replica, sets.extinct(), turned, &kept)?;
+    let mut asked = list_of(alloc, turned)?;
+    asked.extend_from_slice(obsolete)?;
+    let now = suspended_still(alloc, replica, sets.extinct(), turned, &asked)?;
     let mut nodes = list_of(alloc, turned)?;
     nodes.extend_from_slice(seeds)?;
     Turn::to(alloc, sets.suspended(), &nodes, now)

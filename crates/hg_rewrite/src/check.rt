@@ -195,7 +195,7 @@ pub(crate) fn check_not_obsolete(replica: &Replica, op: &Op) -> Result<(), Refus
 }
 
 // Refuses a fold of what is no line, and a relocation onto the node itself or a descendant. It looks for neither where
-// sets that are kept have told that it is apart.
+// sets that are kept have told that it is clear.
 #[inline(always)]
 pub(crate) fn check_linear(
     replica: &Replica,
@@ -204,7 +204,7 @@ pub(crate) fn check_linear(
 ) -> Result<(), Refusal>
     requires known { NoneApplies (unknown_nodes replica.now op.now) }
     requires valid { IsValid replica.now }
-    requires apart { IsTrue is_clear_relocation → NoneApplies (not_linear replica.now op.now) }
+    requires clear { IsTrue is_clear_relocation → NoneApplies (not_linear replica.now op.now) }
     ensures answer { CheckedInMemory (not_linear replica.now op.now) result }
     ensures memory { IsErrOf result Refusal.NoMemory → WalksForDescendants replica.now.history op.now }
 {

@@ -62,7 +62,7 @@ pub fn decide_kept(alloc: Global, kept: &Kept, op: &Op) -> Result<Part, Refusal>
 }
 
 // Decides an operation whose nodes are held, under any pins under which its new parents aren't hidden. Whether it is
-// known to be apart, as sets that are kept tell of a relocation, spares a walk.
+// known to be clear, as sets that are kept tell of a relocation, spares a walk.
 #[inline(always)]
 fn decide_shown(
     alloc: Global,
@@ -72,7 +72,7 @@ fn decide_shown(
 ) -> Result<Part, Refusal>
     requires known { NoneApplies (unknown_nodes replica.now op.now) }
     requires valid { IsValid replica.now }
-    requires apart { IsTrue is_clear_relocation → NoneApplies (not_linear replica.now op.now) }
+    requires clear { IsTrue is_clear_relocation → NoneApplies (not_linear replica.now op.now) }
     ensures answer { (pins : List Node) → NoneApplies (hidden_parents replica.now pins op.now)
         → DecideAnswer replica.now pins op.now result }
     ensures later { (pins : List Node) → NoneApplies (hidden_parents replica.now pins op.now)

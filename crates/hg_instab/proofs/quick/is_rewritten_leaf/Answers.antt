@@ -19,7 +19,7 @@ returns c t =
       once = subst (λ (n : Node). ¬ (IsFork s.markers n)) it (λ fork. true≢false (sym (c.is_fork.ensures.1
           (subst (λ (ms : List Fields). IsFork ms c.predecessor-node.result) (sym c.store.ensures) fork))
           ∙ c.if-is_fork.false));
-      apart = subst (IsInNoSet sets) it (c.is_in_no_set.ensures t);
+      in_no_set = subst (IsInNoSet sets) it (c.is_in_no_set.ensures t);
       away = λ close. true≢false (sym (c.names_near.ensures.1
           (subst (λ (xs : List Node). IsOneNear (IsNamed m) xs) (sym c.near_forks.ensures) close))
           ∙ c.if-names_near.false);

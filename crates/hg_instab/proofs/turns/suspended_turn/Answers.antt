@@ -17,7 +17,7 @@ returns-clause-told c =
     let extinct = c.args.sets.now.extinct in
     let Is : Node → Type 0 = λ n. IsObsolete g n × ¬ (IsNow extinct turned n) in
     let few : c.deref.result.now ≡ turned ++ chosen =
-    c.deref.ensures.value ∙ c.in_ok-extend_from_slice.ensures.items ∙ ap (λ xs. xs ++ chosen) c.in_ok-kept.ensures in
+    c.deref.ensures.value ∙ c.in_ok-extend_from_slice.ensures.items ∙ ap (λ xs. xs ++ chosen) c.in_ok-asked.ensures in
     let all : c.deref-2.result.now ≡ turned ++ seeds =
     c.deref-2.ensures.value ∙ c.in_ok-extend_from_slice-2.ensures.items
     ∙ ap (λ xs. xs ++ seeds) c.in_ok-nodes.ensures in
