@@ -1,3 +1,4 @@
+pub mod Limits
 pub mod Lines
 pub mod Pairs
 pub mod Ring

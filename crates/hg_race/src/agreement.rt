@@ -1,6 +1,7 @@
 //! Peers in a ring that take what others hold, and agree.
 ghost use Rattle.std.specs.Prelude.{◌≡◌, ◌≢◌, ◌↔◌, ◌+◌, ◌*◌, ◌≤◌, length, IsTrue, IfOk, OnOk};
 ghost use Rattle.hg_replica.specs.Content.{content_of, ContentBelow};
+ghost use Rattle.hg_race.specs.Limits.{most_nodes};
 ghost use Rattle.hg_race.specs.Pairs.{Agree, AgreeWith, PairsAgree};
 ghost use Rattle.hg_race.specs.Ring.{IsWholeOffer, TakesOffer, PassesAlong, GoesRound, GoesRoundTwice};
 
@@ -17,7 +18,7 @@ use std::alloc::Global;
 ///
 /// Refuses [`NoMemory`], and what was taken before stays.
 pub fn share_in_ring(alloc: Global, peers: &mut [Peer]) -> Result<u64, NoMemory>
-    requires { length peers.old ≤ 16 }
+    requires { length peers.old ≤ most_nodes }
     ensures taken { OnOk result (GoesRoundTwice peers.old peers.new) }
     ensures count { IfOk result (PairsAgree peers.new) }
 {
@@ -117,9 +118,9 @@ fn unless_memory_of_part(fault: Fault) -> Result<(), NoMemory>
 
 // How many pairs agree.
 fn agreeing(peers: &[Peer]) -> u64
-    requires { length peers.now ≤ 16 }
+    requires { length peers.now ≤ most_nodes }
     ensures count { PairsAgree peers.now result }
-    ensures most { result ≤ 16 * length peers.now }
+    ensures most { result ≤ most_nodes * length peers.now }
 {
     match peers.split_first() {
         Some((first, others)) => agreeing_with(first, others) + agreeing(others),
@@ -129,7 +130,7 @@ fn agreeing(peers: &[Peer]) -> u64
 
 // How many of the others agree with this one.
 fn agreeing_with(peer: &Peer, others: &[Peer]) -> u64
-    requires { length others.now ≤ 16 }
+    requires { length others.now ≤ most_nodes }
     ensures count { AgreeWith peer.now others.now result }
     ensures most { result ≤ length others.now }
 {

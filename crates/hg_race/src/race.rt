@@ -1,6 +1,7 @@
 //! A race from its first round to its last line.
 ghost use Rattle.std.specs.Prelude.{◌≡◌, ◌≤◌, ◌⊎◌, ℕ, IfErr, IfOk, OnOk, vec_len};
 ghost use Rattle.std.specs.Io.KnownBytes.{Appends};
+ghost use Rattle.hg_race.specs.Limits.{least_nodes, most_nodes, most_rounds};
 ghost use Rattle.hg_race.specs.Lines.{race_lines};
 ghost use Rattle.hg_race.specs.Pairs.{IsOfPairs};
 
@@ -36,8 +37,8 @@ pub fn run_race<R: RandomSource + Threads + Wait + Sync, W: Write>(
     rounds: u16,
     writer: &mut W,
 ) -> Result<(), RunFault>
-    requires nodes { (2 ≤ nodes) × (nodes ≤ 16) }
-    requires rounds { (1 ≤ rounds) × (rounds ≤ 1000) }
+    requires nodes { (least_nodes ≤ nodes) × (nodes ≤ most_nodes) }
+    requires rounds { (1 ≤ rounds) × (rounds ≤ most_rounds) }
     ensures printed { OnOk result ((written : ℕ) × (read_back : ℕ) × (agreeing : ℕ) × IsOfPairs nodes agreeing
         × Appends (W.contents writer.old) (W.contents writer.new)
         (race_lines nodes rounds written read_back agreeing)) }
@@ -119,7 +120,7 @@ fn all_counts(outcomes: &[Outcome]) -> Counts {
 
 // Lets the replicas that are left take from each other, twice round the ring, and counts the pairs that agree.
 fn count_agreeing(alloc: Global, outcomes: Vec<Outcome>) -> Result<u64, NoMemory>
-    requires { vec_len outcomes ≤ 16 }
+    requires { vec_len outcomes ≤ most_nodes }
     ensures { IfOk result (IsOfPairs (vec_len outcomes)) }
 {
     let mut peers = peers_left(alloc, outcomes)?;

@@ -3,7 +3,7 @@ ghost use Rattle.std.specs.Prelude.{◌≡◌};
 
 use crate::rounds::write_rounds;
 use crate::station::{Mailbox, Station};
-use crate::taking::take_rounds;
+use crate::taking::{Taken, take_rounds};
 use hg_join::NoMemory;
 use hg_live::{Blank, CloseRefusal, Node, NodeName, OpenGate, Pass, Writer};
 use hg_replica::{IdKeys, Replica};
@@ -71,6 +71,16 @@ impl Counts {
     }
 }
 
+/// What both threads of a node did.
+#[derive(Clone, Copy)]
+struct Raced {
+    // What the rounds of the one came to.
+    counts: Counts,
+
+    // That the other one did its rounds.
+    taken: Taken,
+}
+
 /// What is left of a node when its threads have ended.
 #[derive(Drop)]
 pub(crate) struct Outcome {
@@ -114,10 +124,10 @@ fn race_named<K: NodeName + Send + Sync, R: Threads + Wait + Sync>(
     let Some(passes) = two_passes(rt, &node) else {
         return Ok(Outcome::NONE);
     };
-    let (counts, passes) = race_by(rt, &node, racer, passes);
+    let (raced, passes) = race_by(rt, &node, racer, passes);
     let replica = close(alloc, node, passes)?;
     Ok(Outcome {
-        counts: counts?,
+        counts: raced?.counts,
         replica,
     })
 }
@@ -128,21 +138,21 @@ fn race_by<K: NodeName + Send + Sync, R: Threads + Wait + Sync>(
     node: &Open<K, &R>,
     racer: Racer,
     passes: (Pass<K>, Pass<K>),
-) -> (Result<Counts, NoMemory>, (Pass<K>, Pass<K>)) {
+) -> (Result<Raced, NoMemory>, (Pass<K>, Pass<K>)) {
     let Racer {
         lane,
         mut own,
         mut next,
     } = racer;
     let (mut writes, mut takes) = passes;
-    let counts = race_both(
+    let raced = race_both(
         rt,
         &lane,
         node,
         (&mut writes, &mut next),
         (&mut takes, &mut own),
     );
-    (counts, (writes, takes))
+    (raced, (writes, takes))
 }
 
 // Lets the threads of a node do their rounds: one with what it writes by, the other with what it takes by.
@@ -152,7 +162,7 @@ fn race_both<K: NodeName + Send + Sync, R: Threads + Wait + Sync, M: Mailbox + S
     node: &Open<K, &R>,
     writes: (&mut Pass<K>, &mut M),
     takes: (&mut Pass<K>, &mut M),
-) -> Result<Counts, NoMemory> {
+) -> Result<Raced, NoMemory> {
     let (writing, next) = writes;
     let (taking, own) = takes;
     let (written, taken) = thread::join(
@@ -160,8 +170,11 @@ fn race_both<K: NodeName + Send + Sync, R: Threads + Wait + Sync, M: Mailbox + S
         || write_rounds(rt, lane, node, writing, next),
         || take_rounds(rt, lane, node, taking, own),
     );
-    taken?;
-    written
+    let taken = taken?;
+    Ok(Raced {
+        counts: written?,
+        taken,
+    })
 }
 
 // Two passes, where the node gives them.

@@ -1,6 +1,7 @@
 //! What a race came to, and its lines.
 ghost use Rattle.std.specs.Prelude.{◌≡◌, ◌⊎◌, ◌≤◌, IfOk, IfErr, OnOk, string_bytes};
 ghost use Rattle.std.specs.Io.KnownBytes.{Appends};
+ghost use Rattle.hg_race.specs.Limits.{most_nodes};
 ghost use Rattle.hg_race.specs.Lines.{counted_line, pairs_line, race_lines};
 
 use hg_script::RunFault;
@@ -32,7 +33,7 @@ pub(crate) fn print_result<W: Write>(
     writer: &mut W,
     race: &RaceResult,
 ) -> Result<(), RunFault>
-    requires nodes { (1 ≤ race.now.nodes) × (race.now.nodes ≤ 16) }
+    requires nodes { (1 ≤ race.now.nodes) × (race.now.nodes ≤ most_nodes) }
     ensures printed { OnOk result (Appends (W.contents writer.old) (W.contents writer.new)
         (race_lines race.now.nodes race.now.rounds race.now.written race.now.read_back race.now.agreeing)) }
     ensures err { IfErr result (λ fault. (fault ≡ RunFault.Write)

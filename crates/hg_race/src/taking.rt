@@ -8,6 +8,10 @@ use hg_join::NoMemory;
 use hg_live::{CallRefusal, NodeName, Pass};
 use std::sync::Wait;
 
+/// That a node took in what lay in its mailbox, as often as there are rounds: [`take_rounds`] alone gives it.
+#[derive(Clone, Copy)]
+pub(crate) struct Taken(());
+
 /// Takes in what lies in the node's mailbox, as often as there are rounds.
 pub(crate) fn take_rounds<K: NodeName, R: Wait, M: Mailbox>(
     rt: &R,
@@ -15,14 +19,14 @@ pub(crate) fn take_rounds<K: NodeName, R: Wait, M: Mailbox>(
     node: &Open<K, &R>,
     pass: &mut Pass<K>,
     own: &mut M,
-) -> Result<(), NoMemory>
+) -> Result<Taken, NoMemory>
     ensures { OnOk result
         (AreTurns M.taken M.FindsNone K.opening lane.now.rounds own.old pass.old own.new pass.new) }
 {
     for _round in 0..lane.rounds {
         take_all(rt, node, pass, own)?;
     }
-    Ok(())
+    Ok(Taken(()))
 }
 
 // Takes messages until there is none.

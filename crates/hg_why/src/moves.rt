@@ -1,6 +1,7 @@
 //! To where orphans are moved.
 use crate::named::title_at;
 use hg_changeset::Node;
+use hg_replica::Replica;
 use hg_succ::{Sets, successors_sets};
 use hg_view::Kept;
 use std::alloc::{AllocError, Global};
@@ -14,9 +15,10 @@ pub(crate) struct Move {
     pub(crate) choices: usize,
 }
 
-/// To where a changeset that is an orphan by this obsolete parent is moved, so that it is one no longer. There is no
-/// such place where an obsolete parent became several changesets or nothing, where a new one is an orphan itself, or
-/// where a script has no name for one of them. Of two obsolete parents it is told by the second.
+/// To where a changeset that is an orphan by this obsolete parent is moved, so that it is one no longer: onto what the
+/// parent became, of parts that are a line onto the last, and where nothing is left of it onto what it stood on. There
+/// is no such place where that is no one changeset, is an orphan itself, or has no name in a script. Of two obsolete
+/// parents it is told by the second.
 pub(crate) fn move_by(
     alloc: Global,
     kept: &Kept,
@@ -52,20 +54,44 @@ fn move_from(
     Ok(None)
 }
 
+// So many changesets of which nothing is left are passed by on the way down.
+const PASSED: usize = 64;
+
 // Adds what stands in the place of a parent, if there is one. Tells whether there is such a changeset.
 fn replace(alloc: Global, kept: &Kept, parent: Node, found: &mut Move) -> Result<bool, AllocError> {
-    if parent.is_null() {
-        return Ok(true);
+    let mut parent = parent;
+    for _ in 0..PASSED {
+        if parent.is_null() {
+            return Ok(true);
+        }
+        if !kept.status(parent).obsolete {
+            return add_parent(kept, parent, &mut found.parents);
+        }
+        let sets = successors_sets(alloc, kept.replica(), parent)?;
+        found.choices = found.choices.max(count_of(&sets));
+        if let Some(target) = target_of(kept.replica(), &sets) {
+            return add_parent(kept, target, &mut found.parents);
+        }
+        match passed_by(kept.replica(), parent, &sets) {
+            Some(below) => parent = below,
+            None => return Ok(false),
+        }
     }
-    if !kept.status(parent).obsolete {
-        return add_parent(kept, parent, &mut found.parents);
+    Ok(false)
+}
+
+// What an obsolete changeset stood on of which nothing is left, if that is no merge.
+fn passed_by(replica: &Replica, node: Node, sets: &Sets) -> Option<Node> {
+    match sets {
+        Sets::Family(family) if family.is_empty() => only_parent(replica, node),
+        _ => None,
     }
-    let sets = successors_sets(alloc, kept.replica(), parent)?;
-    found.choices = found.choices.max(count_of(&sets));
-    match target_of(&sets) {
-        Some(target) => add_parent(kept, target, &mut found.parents),
-        None => Ok(false),
-    }
+}
+
+// The parent of what is held and is no merge.
+fn only_parent(replica: &Replica, node: Node) -> Option<Node> {
+    let (first, second) = replica.graph().changeset(node)?.parents();
+    if second.is_null() { Some(first) } else { None }
 }
 
 // Adds a new parent, unless it is there already. Tells whether it can be one.
@@ -85,15 +111,42 @@ fn is_stable(kept: &Kept, node: Node) -> bool {
     title_at(kept.replica(), node).is_some() && !status.obsolete && !status.orphan
 }
 
-// The changeset that something became: that of the first successors set, where it is of one alone.
-fn target_of(sets: &Sets) -> Option<Node> {
+// What is moved onto of what something became: the last of the first successors set.
+fn target_of(replica: &Replica, sets: &Sets) -> Option<Node> {
     match sets {
-        Sets::Family(family) => match family.first() {
-            Some(set) => only_of(set),
-            None => None,
-        },
+        Sets::Family(family) => last_of(replica, family.first()?),
         Sets::Overfull => None,
     }
+}
+
+// A split makes so many at most.
+const PARTS: usize = 255;
+
+// Of changesets that are a line, the one on which none of them stands.
+fn last_of(replica: &Replica, set: &[Node]) -> Option<Node> {
+    if set.len() > PARTS {
+        return None;
+    }
+    let last = youngest(replica, set)?;
+    let mut below = last;
+    for _ in 1..set.len() {
+        below = only_parent(replica, below)?;
+        if !set.contains(&below) {
+            return None;
+        }
+    }
+    Some(last)
+}
+
+// The one of these changesets that came last.
+fn youngest(replica: &Replica, set: &[Node]) -> Option<Node> {
+    let mut last = *set.first()?;
+    for node in set {
+        if replica.graph().place(*node) > replica.graph().place(last) {
+            last = *node;
+        }
+    }
+    Some(last)
 }
 
 /// The one changeset of a set.

@@ -17,10 +17,10 @@ use std::alloc::{AllocError, Global};
 use std::io::Write;
 
 /// Writes why changesets of a replica are unstable: a line with what the replica is called, and for each unstable
-/// changeset, in the graph's order, a block. Its first line has what the changeset is called and the first 12 digits of
-/// its id, each further line a reason, and below that an orphan's parent was rewritten, how the orphan is moved where
-/// that went, unless remedies are to be untold. Say `b` stood on `a` when `a` was amended, and amended elsewhere in
-/// another way:
+/// changeset, in the graph's order, a block. Its first line has what the changeset is called and the first 12 digits
+/// of its id, each further line a reason, and below that an orphan's parent was rewritten, how the orphan is moved
+/// where that went, or onto what that stood on where nothing is left of it, unless remedies are to be untold. Say `b`
+/// stood on `a` when `a` was amended, and amended elsewhere in another way:
 ///
 /// ```text
 /// why alice

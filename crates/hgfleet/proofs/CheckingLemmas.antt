@@ -70,6 +70,6 @@ check_ends fills known held holds text outputs checked printed of_it (failed.Unk
 check_ends fills known held holds text outputs checked printed of_it (failed.UnknownNode name nodes) ends = absurd ends
 check_ends fills known held holds text outputs checked printed of_it (failed.FewLines count) ends = absurd ends
 check_ends fills known held holds text outputs checked printed of_it (failed.File name fault) ends = absurd ends
-check_ends fills known held holds text outputs checked printed of_it failed.NotTaken ends = absurd ends
+check_ends fills known held holds text outputs checked printed of_it (failed.NotTaken told) ends = absurd ends
 check_ends fills known held holds text outputs checked printed of_it failed.Differ ends = absurd ends
 check_ends fills known held holds text outputs checked printed of_it failed.OutputClosed ends = absurd ends

@@ -4,7 +4,8 @@ use Rattle.std.proofs.Common.{ap, subst, sym, take}
 use Rattle.std.specs.Prelude.{option_map}
 use Rattle.std.proofs.lemmas.List.{length-take, take_all}
 use Rattle.hg_log.specs.Drawings.{Text}
-use Rattle.hgfleet.specs.Trying.{IsFileRead, file_limit}
+use Rattle.hgfleet.specs.Limits.{file_limit}
+use Rattle.hgfleet.specs.Trying.{IsFileRead}
 
 -- what is shorter than the front that was read is all
 all_read : (all bytes : Text) → bytes ≡ take (file_limit + 1) all → length bytes ≤ file_limit → all ≡ bytes

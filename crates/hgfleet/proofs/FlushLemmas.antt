@@ -21,7 +21,7 @@ write_status (failed.UnknownNode name nodes) is = absurd is
 write_status (failed.FewLines count) is = absurd is
 write_status (failed.File name fault) is = absurd is
 write_status (failed.Unmet count) is = absurd is
-write_status failed.NotTaken is = absurd is
+write_status (failed.NotTaken told) is = absurd is
 write_status failed.Differ is = absurd is
 write_status failed.OutputClosed is = absurd is
 

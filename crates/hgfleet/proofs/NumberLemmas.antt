@@ -11,6 +11,7 @@ use Rattle.clap.specs.declared.builder.value_parser.ValueParser.TheVariants.{Uns
 use Rattle.clap.specs.declared.parser.matches.ArgMatches.{ArgMatches}
 use Rattle.clap.proofs.ValueTestLemmas.{Accepts-accepts, accepts-Accepts}
 use Rattle.clap.proofs.WalkLemmas.{one_text-rows}
+use Rattle.hg_race.specs.Limits.{least_nodes, most_nodes, most_rounds}
 use Rattle.hgfleet.specs.Arguments.{IsRaceSize, both_numbers, number_given, number_within, numbers_given}
 use Rattle.hgfleet.specs.Arguments.{program, race_met, race_numbers}
 
@@ -101,9 +102,10 @@ both_given (Some x) (Some y) n r h =
 -- numbers that are given for a race, by its rows and by the command that was met, are those of a race
 size_given : (rows : List Row) (n r : ℕ) → numbers_given rows ≡ Some (n, r) → IsRaceSize n r
 size_given rows n r h =
-    let both = both_given (number_given (codes "nodes") 2 16 rows) (number_given (codes "rounds") 1 1000 rows) n r h in
-    let nodes = given_bounds 2 16 (one_of (codes "nodes") rows) n both.0 in
-    let rounds = given_bounds 1 1000 (one_of (codes "rounds") rows) r both.1 in
+    let both = both_given (number_given (codes "nodes") least_nodes most_nodes rows)
+    (number_given (codes "rounds") 1 most_rounds rows) n r h in
+    let nodes = given_bounds least_nodes most_nodes (one_of (codes "nodes") rows) n both.0 in
+    let rounds = given_bounds 1 most_rounds (one_of (codes "rounds") rows) r both.1 in
     (nodes.0, nodes.1, rounds.0, rounds.1)
 
 pub size_met : (met : Option (Text × List Row)) (n r : ℕ) → race_met met ≡ Some (n, r) → IsRaceSize n r

@@ -56,7 +56,7 @@ unread_among names i d (failed.UnknownNode name nodes) within is = absurd is
 unread_among names i d (failed.FewLines count) within is = absurd is
 unread_among names i d (failed.Unmet count) within is = absurd is
 unread_among names i d failed.OutputClosed within is = absurd is
-unread_among names i d failed.NotTaken within is = absurd is
+unread_among names i d (failed.NotTaken told) within is = absurd is
 unread_among names i d failed.Differ within is = absurd is
 
 pub unread_ends_trial : (wanted : WantedTrial) (held : Option Text) (failure : Failure)
@@ -71,7 +71,7 @@ unread_ends_trial wanted held (failed.UnknownNode name nodes) is = absurd is
 unread_ends_trial wanted held (failed.FewLines count) is = absurd is
 unread_ends_trial wanted held (failed.Unmet count) is = absurd is
 unread_ends_trial wanted held failed.OutputClosed is = absurd is
-unread_ends_trial wanted held failed.NotTaken is = absurd is
+unread_ends_trial wanted held (failed.NotTaken told) is = absurd is
 unread_ends_trial wanted held failed.Differ is = absurd is
 
 pub first_ends : (first second : Text) (held : Option Text) (failure : Failure) → IsUnread first failure
@@ -86,7 +86,7 @@ first_ends first second held (failed.UnknownNode name nodes) is = absurd is
 first_ends first second held (failed.FewLines count) is = absurd is
 first_ends first second held (failed.Unmet count) is = absurd is
 first_ends first second held failed.OutputClosed is = absurd is
-first_ends first second held failed.NotTaken is = absurd is
+first_ends first second held (failed.NotTaken told) is = absurd is
 first_ends first second held failed.Differ is = absurd is
 
 pub second_ends : (first second : Text) (held : Option Text) (failure : Failure) → IsUnread second failure
@@ -101,7 +101,7 @@ second_ends first second held (failed.UnknownNode name nodes) is = absurd is
 second_ends first second held (failed.FewLines count) is = absurd is
 second_ends first second held (failed.Unmet count) is = absurd is
 second_ends first second held failed.OutputClosed is = absurd is
-second_ends first second held failed.NotTaken is = absurd is
+second_ends first second held (failed.NotTaken told) is = absurd is
 second_ends first second held failed.Differ is = absurd is
 
 -- a comparison that ends as one of read files does
@@ -117,7 +117,7 @@ compared_ends first second held holds (failed.UnknownNode name nodes) h = absurd
 compared_ends first second held holds (failed.FewLines count) h = absurd h
 compared_ends first second held holds (failed.Unmet count) h = absurd h
 compared_ends first second held holds failed.OutputClosed h = absurd h
-compared_ends first second held holds failed.NotTaken h = h
+compared_ends first second held holds (failed.NotTaken told) h = h
 compared_ends first second held holds failed.Differ h = h
 
 -- ---- a trial
@@ -149,7 +149,7 @@ unwritten_to wanted (Some name) held holds (failed.UnknownNode unknown nodes) e 
 unwritten_to wanted (Some name) held holds (failed.FewLines count) e is answered = absurd is
 unwritten_to wanted (Some name) held holds (failed.Unmet count) e is answered = absurd is
 unwritten_to wanted (Some name) held holds failed.OutputClosed e is answered = absurd is
-unwritten_to wanted (Some name) held holds failed.NotTaken e is answered = absurd is
+unwritten_to wanted (Some name) held holds (failed.NotTaken told) e is answered = absurd is
 unwritten_to wanted (Some name) held holds failed.Differ e is answered = absurd is
 unwritten_to wanted None held holds failure e is answered = absurd is
 

@@ -13,6 +13,7 @@ use Rattle.clap.specs.ValueTests.{is_unsigned_in}
 use Rattle.clap.specs.declared.builder.value_parser.ValueParser.TheVariants.{Names, Signed}
 use Rattle.clap.specs.declared.error.Error.{Error}
 use Rattle.clap.specs.declared.error.kind.ErrorKind.TheVariants.{DisplayHelp, DisplayVersion, OutOfMemory}
+use Rattle.hg_race.specs.Limits.{least_nodes, most_nodes, most_rounds}
 use Rattle.hg_show.specs.declared.form.Form.{Form}
 use Rattle.hg_show.specs.declared.form.Form.TheVariants.{Store, Roots, Message}
 use Rattle.hgfleet.specs.declared.arguments.Picture.{Picture}
@@ -21,6 +22,7 @@ use Rattle.hgfleet.specs.declared.arguments.Wanted.{Wanted}
 use Rattle.hgfleet.specs.declared.arguments.Wanted.TheVariants.{Run, RunWithNotes, Race, Log, Show, Write, Why, Fate}
 use Rattle.hgfleet.specs.declared.arguments.Wanted.TheVariants.{Help, Version, Try, Compare, Check}
 use Rattle.hgfleet.specs.CheckArguments.{check_app}
+use Rattle.hgfleet.specs.Limits.{line_number_limit}
 use Rattle.hgfleet.specs.TryArguments.{TrialOptions, compare_app, files_compared, flag_given, flag_rule, try_app}
 use Rattle.hgfleet.specs.TryArguments.{try_given, words_given, words_rule}
 use Rattle.hgfleet.specs.declared.try_arguments.WantedTrial.{WantedTrial}
@@ -39,10 +41,10 @@ number_rule name low high = record (new_rule name) {
 abbrev pub wanted_number : Text → ℕ → ℕ → Rule
 wanted_number name low high = record (number_rule name low high) { required = true }
 
--- `race` with the number of its nodes, 2 to 16, and of its rounds, 1 to 1,000
+-- `race` with the number of its nodes, and of its rounds
 abbrev pub race : App
-race = with_rule (with_rule (new_app (codes "race")) (wanted_number (codes "nodes") 2 16))
-    (wanted_number (codes "rounds") 1 1000)
+race = with_rule (with_rule (new_app (codes "race")) (wanted_number (codes "nodes") least_nodes most_nodes))
+    (wanted_number (codes "rounds") 1 most_rounds)
 
 -- `run` with its flags
 abbrev pub run : App
@@ -59,10 +61,6 @@ nodes_rule = record (new_rule (codes "nodes")) {
   range = Some (record { start_inclusive = 0; end_inclusive = usize_max });
   value_names = 1;
 }
-
--- a script has no more lines than it may have bytes
-abbrev pub line_number_limit : ℕ
-line_number_limit = 1048576
 
 -- an option `--at LINE`
 abbrev pub line_rule : Rule
@@ -162,7 +160,8 @@ both_numbers None b = None
 -- the numbers of nodes and of rounds that are given for a race's options
 abbrev pub numbers_given : List Row → Option (ℕ × ℕ)
 numbers_given rows =
-    both_numbers (number_given (codes "nodes") 2 16 rows) (number_given (codes "rounds") 1 1000 rows)
+    both_numbers (number_given (codes "nodes") least_nodes most_nodes rows)
+    (number_given (codes "rounds") 1 most_rounds rows)
 
 -- the numbers of a race, where `race` is the command that was met
 abbrev pub race_met : Option (Text × List Row) → Option (ℕ × ℕ)
@@ -175,7 +174,7 @@ race_numbers words = race_met (subcommand_of program words)
 
 -- so many nodes may race for so many rounds
 abbrev pub IsRaceSize : ℕ → ℕ → Type 0
-IsRaceSize nodes rounds = (2 ≤ nodes) × (nodes ≤ 16) × (1 ≤ rounds) × (rounds ≤ 1000)
+IsRaceSize nodes rounds = (least_nodes ≤ nodes) × (nodes ≤ most_nodes) × (1 ≤ rounds) × (rounds ≤ most_rounds)
 
 -- the names of nodes that are given for a log, in their order
 abbrev pub names_given : List Row → List Text

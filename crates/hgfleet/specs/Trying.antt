@@ -27,10 +27,7 @@ use Rattle.hgfleet.specs.declared.try_arguments.Account.{Account}
 use Rattle.hgfleet.specs.declared.try_arguments.Account.TheVariants.{Answers, Log, Why, Graph, Array}
 use Rattle.hgfleet.specs.declared.try_arguments.WantedTrial.{WantedTrial}
 use Rattle.hgfleet.specs.Drawings.{IsHistory}
-
--- 1 GiB
-abbrev pub file_limit : ℕ
-file_limit = 1073741824
+use Rattle.hgfleet.specs.Limits.{file_limit}
 
 -- no more bytes than a file may have, and what the reader had, where that is known
 abbrev pub IsFileRead : Option Text → Text → Type 0
@@ -154,7 +151,7 @@ IsTargetUnwritten None failure = ⊥
 -- a trial: a message was refused; or a file wasn't read, or there are no keys, and nothing was printed; or all messages
 -- were answered, and the file that is written wasn't; or a write failed, or memory was wanting
 abbrev pub EndsTrial : WantedTrial → Option Text → Option Text → Failure → Type 0
-EndsTrial wanted held holds NotTaken = IsRefusedTrial wanted held holds
+EndsTrial wanted held holds (NotTaken told) = IsRefusedTrial wanted held holds
 EndsTrial wanted held holds (File told fault) =
     (IsUnreadAmong wanted.files.items (File told fault) × (holds ≡ held))
     ⊎ ((option_map string_bytes wanted.target ≡ Some told.now) × IsAnsweredTrial wanted held holds)
@@ -166,7 +163,7 @@ EndsTrial wanted held holds _ = ⊥
 -- nothing was written; or a write failed, or memory was wanting
 abbrev pub EndsCompared : Option Text → Option Text → Failure → Type 0
 EndsCompared held holds Differ = IsComparison (Some false) held holds
-EndsCompared held holds NotTaken = IsComparison None held holds
+EndsCompared held holds (NotTaken told) = IsComparison None held holds
 EndsCompared held holds (Run fault) =
     ((fault ≡ Read) × (holds ≡ held)) ⊎ ((fault ≡ Write) ⊎ (fault ≡ NoMemory))
 EndsCompared held holds _ = ⊥

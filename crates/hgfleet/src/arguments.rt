@@ -5,6 +5,7 @@ ghost use Rattle.clap.specs.Words.{App, Rule, Text, app_of, found_of, kind_of, n
 ghost use Rattle.clap.specs.Words.{subcommand_rows_of, with_rule, with_subcommand};
 ghost use Rattle.clap.specs.declared.builder.command.Command.TheViews.{out-Command};
 ghost use Rattle.clap.specs.declared.builder.value_parser.ValueParser.TheVariants.{Signed};
+ghost use Rattle.hg_race.specs.Limits.{least_nodes, most_nodes, most_rounds};
 ghost use Rattle.hgfleet.specs.declared.arguments.ArgumentFault.TheVariants.{NoMemory};
 ghost use Rattle.hg_show.specs.declared.form.Form.TheVariants.{Store, Message};
 ghost use Rattle.hgfleet.specs.Arguments.{ArgumentsAnswer, IsRun, IsMistake, MeetsWanted, ParseAnswer, faults_at};
@@ -201,7 +202,9 @@ Behind the phase of a changeset a report says which of these it is:
 
 A line that a replica refuses changes nothing. What refused it is printed, as
   7: rewrite 3 Public
-with the line's number, a word, and the refusal's number and name; the script goes on.
+with the line's number, a word, and the refusal's number and name, with --explain
+  7: rewrite 3 Public b
+with what it is about, too; the script goes on.
 A line that can't be read ends the script, and says so on standard error, as
   line 7: unknown command
 
@@ -607,7 +610,7 @@ fn race<'a>(alloc: Global) -> Result<Command<'a>, AllocError>
 
 // The number of a race's nodes.
 fn race_nodes<'a>(alloc: Global) -> Arg<'a>
-    ensures { IsArgument (wanted_number (codes "nodes") 2 16) result }
+    ensures { IsArgument (wanted_number (codes "nodes") least_nodes most_nodes) result }
 {
     let parser = value_parser!(u32).range(2..=16);
     number_argument(alloc, "nodes", "N (2 to 16)", parser, "How many nodes").required(true)
@@ -615,7 +618,7 @@ fn race_nodes<'a>(alloc: Global) -> Arg<'a>
 
 // The number of its rounds.
 fn race_rounds<'a>(alloc: Global) -> Arg<'a>
-    ensures { IsArgument (wanted_number (codes "rounds") 1 1000) result }
+    ensures { IsArgument (wanted_number (codes "rounds") 1 most_rounds) result }
 {
     let parser = value_parser!(u32).range(1..=1_000);
     number_argument(alloc, "rounds", "R (1 to 1000)", parser, "How many rounds").required(true)

@@ -29,8 +29,8 @@ pub enum Failure<'a> {
     FewLines(usize),
     /// The file of this name wasn't read, or written.
     File(&'a str, FileFault),
-    /// A message of files was refused.
-    NotTaken,
+    /// A message of files was refused; what all were answered, where that isn't told otherwise.
+    NotTaken(Vec<u8>),
     /// Two repositories differ.
     Differ,
     /// Of so many lines of a script something else is expected than they print.
@@ -53,7 +53,7 @@ impl Failure<'_> {
             Failure::UnknownNode(_, _) => 1,
             Failure::FewLines(_) => 1,
             Failure::File(_, _) => 1,
-            Failure::NotTaken => 1,
+            Failure::NotTaken(_) => 1,
             Failure::Differ => 1,
             Failure::Unmet(_) => 1,
             Failure::OutputClosed => 1,
@@ -96,7 +96,10 @@ impl fmt::Display for Failure<'_> {
             Failure::FewLines(1) => write!(f, "hgfleet: the script has 1 line"),
             Failure::FewLines(count) => write!(f, "hgfleet: the script has {count} lines"),
             Failure::File(name, fault) => write!(f, "{name}: {fault}"),
-            Failure::NotTaken => write!(f, "hgfleet: a message was refused"),
+            Failure::NotTaken(told) => {
+                f.write_str(str::from_utf8(told).unwrap_or(""))?;
+                write!(f, "hgfleet: a message was refused")
+            }
             Failure::Differ => write!(f, "hgfleet: the repositories differ"),
             Failure::Unmet(1) => write!(f, "hgfleet: 1 line differs"),
             Failure::Unmet(count) => write!(f, "hgfleet: {count} lines differ"),

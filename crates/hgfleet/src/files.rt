@@ -1,6 +1,7 @@
 //! Files, which are read and written whole.
 ghost use Rattle.std.specs.Prelude.{◌≡◌, ◌≤◌, ◌↔◌, IfOk, IsTrue, codes, length};
-ghost use Rattle.hgfleet.specs.Trying.{IsFileRead, IsNamedRead, file_limit};
+ghost use Rattle.hgfleet.specs.Limits.{file_limit};
+ghost use Rattle.hgfleet.specs.Trying.{IsFileRead, IsNamedRead};
 
 use std::alloc::Global;
 use std::io::{ErrorKind, Read};

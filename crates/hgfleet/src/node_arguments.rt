@@ -44,9 +44,9 @@ unstable; where none is named, of every node. Each unstable changeset has its na
   orphan                  of which parent, and what became of that
   phase-divergent         from which public changeset it was made
   content-divergent       with which changesets, and from which one all of them come
-Below an orphan stands the line of a script that moves it to where its parent went, where there is such a changeset.
-Divergence ends where all of these changesets but one are pruned. Lines that were refused are explained on standard
-error.
+Below an orphan stands the line of a script that moves it to where its parent went, or, where that left nothing, onto
+what its parent stood on, if there is such a changeset. Phase-divergence ends where the changeset is pruned, and
+content-divergence where all of these changesets but one are. Lines that were refused are explained on standard error.
 
 Statuses: 0 done, 1 a script that ended early or leaves no such name, or a text that
 can't be written, 2 wrong arguments, 3 want of memory.

@@ -55,7 +55,7 @@ or why it is refused; the next ones are taken all the same. The file - is standa
 What stands then is shown below, where that is asked for, under the name trial: with --log its history, as `hgfleet log`
 draws that of a node, and with --why what is unstable, as `hgfleet why` tells it, but without lines of a script. With
 --log --dot a graph in the language of Graphviz is all that is printed, and with --json an array of all changesets,
-hidden or not; what messages were answered is then told by the status alone.
+hidden or not; what messages were answered is then told on standard error, and only where one was refused.
 
 With --write TARGET a message of all that stands then goes to the file TARGET, whichever else is printed, also where a
 message was refused; other trials and comparisons take it in.

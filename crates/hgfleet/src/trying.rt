@@ -25,7 +25,7 @@ use hg_view::Kept;
 use hg_why::Remedy;
 use std::alloc::{AllocError, Global};
 use std::fs;
-use std::io::{Read, Write, sink};
+use std::io::{Read, Write};
 use std::random::RandomSource;
 use std::rt::Files;
 
@@ -66,7 +66,16 @@ fn try_contents<'a, H: AllocGlobal + Files, W: Write>(
 {
     let alloc = rt.alloc();
     let messages = messages_of(alloc, &wanted.files, contents)?;
-    let tried = write_account(alloc, keys, &messages, wanted.account, is_coloured, writer)?;
+    let mut untold = Vec::new(alloc);
+    let tried = write_account(
+        alloc,
+        keys,
+        &messages,
+        wanted.account,
+        is_coloured,
+        writer,
+        &mut untold,
+    )?;
     match write_target(alloc, rt, tried.trial.kept(), &wanted.target) {
         Ok(()) => {}
         Err(failure) => return Err(failure),
@@ -74,11 +83,12 @@ fn try_contents<'a, H: AllocGlobal + Files, W: Write>(
     if are_taken(&tried.answers) {
         Ok(())
     } else {
-        Err(Failure::NotTaken)
+        Err(Failure::NotTaken(untold))
     }
 }
 
-// Takes the messages in, and writes this account of it.
+// Takes the messages in, and writes this account of it. What they were answered goes into the text where the account
+// doesn't tell that.
 fn write_account<W: Write>(
     alloc: Global,
     keys: IdKeys,
@@ -86,6 +96,7 @@ fn write_account<W: Write>(
     account: Account,
     is_coloured: bool,
     writer: &mut W,
+    untold: &mut Vec<u8>,
 ) -> Result<Tried, DrawFault>
     ensures answers { IfOk result (λ tried. AnswersTo nothing_held (texts_of messages.now) tried.answers.items
         tried.trial) }
@@ -93,18 +104,19 @@ fn write_account<W: Write>(
     ensures written { IfOk result (λ tried. (text : List ℕ) × IsAccount account tried.answers.items tried.trial text
         × Appends (W.contents writer.old) (W.contents writer.new) text) }
 {
-    let tried = take_messages(alloc, keys, messages, account, writer)?;
+    let tried = take_messages(alloc, keys, messages, account, writer, untold)?;
     show_standing(alloc, &tried.trial, account, is_coloured, writer)?;
     Ok(tried)
 }
 
-// Takes the messages in, and writes what each was answered, where the account tells that.
+// Takes the messages in, and writes what each was answered, where the account tells that, and else into the text.
 fn take_messages<W: Write>(
     alloc: Global,
     keys: IdKeys,
     messages: &[NamedMessage<'_>],
     account: Account,
     writer: &mut W,
+    untold: &mut Vec<u8>,
 ) -> Result<Tried, DrawFault>
     ensures answers { IfOk result (λ tried. AnswersTo nothing_held (texts_of messages.now) tried.answers.items
         tried.trial) }
@@ -115,7 +127,25 @@ fn take_messages<W: Write>(
     if tells_answers(account) {
         write_trial(alloc, keys, messages, writer)
     } else {
-        write_trial(alloc, keys, messages, &mut sink())
+        take_untold(alloc, keys, messages, untold)
+    }
+}
+
+// Takes the messages in, and puts what each was answered into the text.
+fn take_untold(
+    alloc: Global,
+    keys: IdKeys,
+    messages: &[NamedMessage<'_>],
+    text: &mut Vec<u8>,
+) -> Result<Tried, DrawFault>
+    ensures answers { IfOk result (λ tried. AnswersTo nothing_held (texts_of messages.now) tried.answers.items
+        tried.trial) }
+    ensures least { IfOk result (λ tried. IsLeastOfTaken (texts_of messages.now) tried.answers.items tried.trial) }
+{
+    match write_trial(alloc, keys, messages, text) {
+        Ok(tried) => Ok(tried),
+        // A text refuses what is put into it for want of memory alone.
+        Err(_) => Err(DrawFault::NoMemory),
     }
 }
 
@@ -338,6 +368,6 @@ fn compare_contents<W: Write>(
     match compare_messages(alloc, keys, mine, theirs, writer)? {
         Some(true) => Ok(()),
         Some(false) => Err(Failure::Differ),
-        None => Err(Failure::NotTaken),
+        None => Err(Failure::NotTaken(Vec::new(alloc))),
     }
 }

@@ -1,10 +1,12 @@
 use Rattle.std.proofs.Common.{rules, ◌≡◌}
 use Rattle.std.specs.Prelude.{pos}
 use Rattle.clap.specs.declared.builder.value_parser.ValueParser.TheVariants.{Signed}
+use Rattle.hg_race.specs.Limits.{least_nodes, most_nodes}
 use Rattle.hgfleet.proofs.BuilderLemmas.{needed}
 use Rattle.hgfleet.proofs.arguments.race_nodes.Goals as goal
 
 pub returns : goal.returns
 returns c =
-    let range : c.range-parser.result ≡ Signed (pos 2) (pos 16) = search rules in
-    needed c.number_argument.result c.required.result _ c.required.ensures (c.number_argument.ensures 2 16 range)
+    let range : c.range-parser.result ≡ Signed (pos least_nodes) (pos most_nodes) = search rules in
+    needed c.number_argument.result c.required.result _ c.required.ensures
+    (c.number_argument.ensures least_nodes most_nodes range)

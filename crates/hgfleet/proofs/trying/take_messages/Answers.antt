@@ -15,11 +15,11 @@ returns-then-tells_answers-clause-written g c =
 
 pub returns-else-tells_answers-clause-written : goal.returns-else-tells_answers-clause-written
 returns-else-tells_answers-clause-written g c =
-    IfOk-weaker c.write_trial-else-tells_answers.result _ _
+    IfOk-weaker c.take_untold.result _ _
     (λ tried _. (
       [],
       subst (λ (b : Bool). AreAnswersToldIf b tried.answers.items [])
           (sym c.if-tells_answers.false ∙ c.tells_answers.ensures) refl,
       Appends-nil _,
     ))
-    c.write_trial-else-tells_answers.ensures.written
+    c.take_untold.ensures.answers
