@@ -3,8 +3,10 @@
 //! read what a call is for, and see that it comes. Nothing here is refused memory but where a test says so.
 //!
 //! A row that a script can ask is no test but a case of `examples/`. The rows of nodes and inboxes, which threads
-//! share, are in `hg_live_tests`. Those of sets of ids are in `hg_history_tests`, and most of those of refused growth
-//! are there, in `hg_replica_tests` and in `hg_peer_tests`. No row is left out for the time that its proof takes.
+//! share, are in `hg_live_tests`, with those of kept sets beside sets from scratch. Those of sets of ids and of the
+//! longest text are in `hg_history_tests`, that of 3,000 markers is in `hg_replica_tests`, that of a long chain's
+//! discovery in `hg_peer_tests`, and most of those of refused growth are in these three. No row is left out for the
+//! time that its proof takes.
 #![tactic(auto)]
 
 #[cfg(test)]

@@ -183,3 +183,20 @@ fn a_prune_of_a_root_records_the_null_id_as_its_parent(rt: HostRuntime) {
     assert!(rt; written.len() == 105 && written.as_slice() == PRUNED);
     assert!(rt; marker.parents() == Parents::One(Node::NULL));
 }
+
+// A marker of a prune by `fleet` at `0 0`, with the null id as its predecessor's parent.
+fn made_prune(alloc: Global, node: Node) -> Option<Marker> {
+    let mut texts = TextMap::new(alloc);
+    texts.insert(b"user", b"fleet").ok()?;
+    texts.insert(b"p1", &Node::NULL.to_hex()).ok()?;
+    texts.insert(b"operation", b"prune").ok()?;
+    texts.insert(b"date", b"0 0").ok()?;
+    Marker::new(node, &[], 0, &texts).ok()
+}
+
+#[test]
+fn a_marker_that_is_made_has_the_bytes_of_a_prune(rt: HostRuntime) {
+    let marker = made_prune(rt.alloc(), EMPTY).expect(&rt, "a marker");
+    let written = encode(&marker).expect(&rt, "memory");
+    assert!(rt; written.as_slice() == PRUNED && marker.parents() == Parents::One(Node::NULL));
+}
