@@ -9,6 +9,7 @@
 mod looking;
 mod parts;
 mod replicas;
+mod timing;
 
 use hg_message::Scope;
 use hg_node_set::IdKeys;

@@ -1,4 +1,5 @@
 //! Cases of a message and its part: what reading it costs, and taking it in.
+use crate::timing::since;
 use hg_message::Message;
 use hg_node_set::IdKeys;
 use hg_replica::{Part, Replica};
@@ -29,7 +30,7 @@ pub fn replica_of(alloc: Global, keys: IdKeys, part: Part) -> io::Result<Replica
 pub fn read(rt: &impl CpuClock, alloc: Global, bytes: &[u8]) -> io::Result<Duration> {
     let before = rt.thread_cpu_time()?;
     let _read = Message::from_bytes(alloc, bytes);
-    Ok(rt.thread_cpu_time()?.saturating_sub(before))
+    since(rt, before)
 }
 
 /// A part is taken in by an empty replica with these keys, to which it is handed over.
@@ -37,7 +38,7 @@ pub fn take(rt: &impl CpuClock, alloc: Global, keys: IdKeys, part: Part) -> io::
     let mut replica = Replica::with_keys(alloc, keys);
     let before = rt.thread_cpu_time()?;
     let _absorbed = replica.absorb_owned(part);
-    Ok(rt.thread_cpu_time()?.saturating_sub(before))
+    since(rt, before)
 }
 
 /// The same by a replica that keeps its sets of instabilities.
@@ -45,5 +46,5 @@ pub fn keep(rt: &impl CpuClock, alloc: Global, keys: IdKeys, part: Part) -> io::
     let mut kept = Kept::new(alloc, Replica::with_keys(alloc, keys))?;
     let before = rt.thread_cpu_time()?;
     let _absorbed = kept.absorb_owned(part);
-    Ok(rt.thread_cpu_time()?.saturating_sub(before))
+    since(rt, before)
 }

@@ -1,4 +1,5 @@
 //! Cases of a replica: what joining it costs, telling what follows from what it holds, and offering that.
+use crate::timing::since;
 use hg_changeset::Node;
 use hg_instab::Instabilities;
 use hg_message::{Outgoing, Scope};
@@ -17,7 +18,7 @@ const OFTEN: usize = 1000;
 pub fn join(rt: &impl CpuClock, replica: &mut Replica, other: &Replica) -> io::Result<Duration> {
     let before = rt.thread_cpu_time()?;
     let _joined = replica.join(other);
-    Ok(rt.thread_cpu_time()?.saturating_sub(before))
+    since(rt, before)
 }
 
 /// An equal replica.
@@ -32,7 +33,7 @@ pub fn copy_of(replica: &Replica) -> io::Result<Replica> {
 pub fn ask_below(rt: &impl CpuClock, replica: &Replica, other: &Replica) -> io::Result<Duration> {
     let before = rt.thread_cpu_time()?;
     let _below = replica.is_below(other);
-    Ok(rt.thread_cpu_time()?.saturating_sub(before))
+    since(rt, before)
 }
 
 /// The roots, told a thousand times.
@@ -41,14 +42,14 @@ pub fn tell_roots(rt: &impl CpuClock, replica: &Replica) -> io::Result<Duration>
     for _ in 0..OFTEN {
         let _roots = replica.roots();
     }
-    Ok(rt.thread_cpu_time()?.saturating_sub(before))
+    since(rt, before)
 }
 
 /// All instabilities.
 pub fn tell(rt: &impl CpuClock, alloc: Global, replica: &Replica) -> io::Result<Duration> {
     let before = rt.thread_cpu_time()?;
     let _sets = Instabilities::from_scratch(alloc, replica)?;
-    Ok(rt.thread_cpu_time()?.saturating_sub(before))
+    since(rt, before)
 }
 
 /// What is visible, and what is served.
@@ -57,7 +58,7 @@ pub fn view(rt: &impl CpuClock, alloc: Global, replica: &Replica) -> io::Result<
     let before = rt.thread_cpu_time()?;
     let _visible = visible(alloc, replica, &pins)?;
     let _served = served(alloc, replica, &pins)?;
-    Ok(rt.thread_cpu_time()?.saturating_sub(before))
+    since(rt, before)
 }
 
 /// The successors sets of all predecessors, and which of these have several.
@@ -65,7 +66,7 @@ pub fn tell_sets(rt: &impl CpuClock, alloc: Global, replica: &Replica) -> io::Re
     let asked = predecessors(alloc, replica)?;
     let before = rt.thread_cpu_time()?;
     let _several = several_among(alloc, replica, &asked)?;
-    Ok(rt.thread_cpu_time()?.saturating_sub(before))
+    since(rt, before)
 }
 
 // The predecessors of all markers.
@@ -82,7 +83,7 @@ pub fn find(rt: &impl CpuClock, alloc: Global, replica: &Replica) -> io::Result<
     let pins = Pins::new(alloc);
     let before = rt.thread_cpu_time()?;
     let _found = Outgoing::above(alloc, replica, &pins, &[], Scope::Served);
-    Ok(rt.thread_cpu_time()?.saturating_sub(before))
+    since(rt, before)
 }
 
 /// All that the scope names is found, and written straight from the replica.
@@ -97,5 +98,5 @@ pub fn send(
     if let Ok(found) = Outgoing::above(alloc, replica, &pins, &[], scope) {
         let _written = found.to_bytes();
     }
-    Ok(rt.thread_cpu_time()?.saturating_sub(before))
+    since(rt, before)
 }

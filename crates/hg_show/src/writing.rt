@@ -1,5 +1,5 @@
 //! Writing what a node holds.
-ghost use Rattle.std.specs.Prelude.{◌≡◌, List, ℕ, IfErr, OnOk};
+ghost use Rattle.std.specs.Prelude.{◌≡◌, ◌≢◌, [], List, ℕ, IfErr, OnErr, OnOk};
 ghost use Rattle.std.specs.Io.KnownBytes.{Appends};
 ghost use Rattle.hg_obsstore.specs.Spelling.{store_spelling};
 ghost use Rattle.hg_phaseroots.specs.Writing.{IsWritten};
@@ -45,6 +45,7 @@ const PIECE: usize = 4096;
 pub fn write_bytes<W: Write>(bytes: &[u8], writer: &mut W) -> Result<(), WriteFault>
     ensures ok { OnOk result (Appends (W.contents writer.old) (W.contents writer.new) bytes.now) }
     ensures err { IfErr result (λ fault. fault ≡ WriteFault.Write) }
+    ensures some { OnErr result (bytes.now ≢ []) }
 {
     for piece in bytes.chunks(PIECE) {
         match writer.write_all(piece) {

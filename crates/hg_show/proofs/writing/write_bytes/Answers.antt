@@ -24,5 +24,7 @@ pub returns-clause-ok : goal.returns-clause-ok
 returns-clause-ok g c =
     let before = c.loop-piece.invariant.1 in
     let none = nil_from_length _ c.in-None.ensures.steps.1.0 in
-    subst (λ (text : List ℕ). Appends (g.W.Write.contents c.args.writer.now) (g.W.Write.contents c.loop-piece.writer) text)
+    let held = g.W.Write.contents c.args.writer.now in
+    let holds = g.W.Write.contents c.loop-piece.writer in
+    subst (λ (text : List ℕ). Appends held holds text)
     (sym (append-nil before.0) ∙ ap (λ (rest : List ℕ). before.0 ++ rest) (sym none) ∙ before.2) before.1
