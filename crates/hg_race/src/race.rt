@@ -12,7 +12,7 @@ use crate::seating::stations;
 use hg_join::NoMemory;
 use hg_peer::Peer;
 use hg_replica::IdKeys;
-use hg_script::RunFault;
+use hg_line::RunFault;
 use hg_view::Kept;
 use std::alloc::Global;
 use std::io::Write;

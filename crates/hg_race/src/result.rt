@@ -4,7 +4,7 @@ ghost use Rattle.std.specs.Io.KnownBytes.{Appends};
 ghost use Rattle.hg_race.specs.Limits.{most_nodes};
 ghost use Rattle.hg_race.specs.Lines.{counted_line, pairs_line, race_lines};
 
-use hg_script::RunFault;
+use hg_line::RunFault;
 use std::alloc::{AllocError, Global};
 use std::io::Write;
 

@@ -5,17 +5,19 @@ use Rattle.std.specs.declared.vec.Vec.{Vec}
 use Rattle.std.specs.declared.alloc.Global.{Global}
 use Rattle.std.proofs.lemmas.List.{append-nil, append_assoc, map-append}
 use Rattle.hg_expect.specs.Expectations.{texts}
-use Rattle.hg_script.specs.declared.fault.RunFault.{RunFault}
-use Rattle.hg_script.specs.declared.fleet.Fleet.{Fleet}
+use Rattle.hg_line.specs.declared.fault.RunFault.{RunFault}
+use Rattle.hg_line.specs.declared.fleet.Fleet.{Fleet}
 use Rattle.hg_script.specs.ByLine.{PrintsEach, PrintsLines}
-use Rattle.hg_script.specs.Commands.{Text}
-use Rattle.hg_script.specs.Events.{Trace, no_trace, joined}
-use Rattle.hg_script.specs.Printing.{PrintsLine, no_notes}
-use Rattle.hg_script.specs.Scripts.{DoesLine, DoesLines, IsNewFleet}
+use Rattle.hg_line.specs.Commands.{Text}
+use Rattle.hg_line.specs.Events.{Trace, no_trace, joined}
+use Rattle.hg_line.specs.Printing.{PrintsLine, no_notes}
+use Rattle.hg_line.specs.Lines.{DoesLine, IsNewFleet}
+use Rattle.hg_script.specs.Scripts.{DoesLines}
 use Rattle.hg_script.specs.Stops.{StopsAmong}
-use Rattle.hg_script.specs.Words.{has_node}
+use Rattle.hg_line.specs.Words.{has_node}
 use Rattle.hg_script.proofs.EndingLemmas.{stops_later}
-use Rattle.hg_script.proofs.ScriptLemmas.{Compose, bare_line, does_lines_ran}
+use Rattle.hg_line.proofs.LineLemmas.{bare_line}
+use Rattle.hg_script.proofs.ScriptLemmas.{Compose, does_lines_ran}
 
 -- whatever the rest prints in the fleet as it is now, behind what was printed already, the whole text prints in the
 -- fleet as it was, and so where it stops

@@ -1,12 +1,4 @@
 pub mod ByLineLemmas
 pub mod EndingLemmas
-pub mod GatherLemmas
-pub mod GrowLemmas
 pub mod InputLemmas
-pub mod LabelLemmas
-pub mod NameLemmas
-pub mod NoteLemmas
-pub mod ReportLemmas
 pub mod ScriptLemmas
-pub mod UnstableLemmas
-pub mod WordLemmas

@@ -3,11 +3,12 @@ use Rattle.std.specs.Prelude.{ℕ, ◌≡◌, ◌+◌, List, [], ◌∷◌}
 use Rattle.std.specs.Str.Lines.{lines}
 use Rattle.hg_view.specs.Kept.{KeptValue}
 use Rattle.hg_world.specs.Runs.{Snapshot}
-use Rattle.hg_script.specs.declared.fleet.Fleet.{Fleet}
-use Rattle.hg_script.specs.Commands.{Text}
-use Rattle.hg_script.specs.Events.{Trace, no_trace, joined}
-use Rattle.hg_script.specs.Printing.{PrintsLine}
-use Rattle.hg_script.specs.Scripts.{DoesLine, IsRunOf}
+use Rattle.hg_line.specs.declared.fleet.Fleet.{Fleet}
+use Rattle.hg_line.specs.Commands.{Text}
+use Rattle.hg_line.specs.Events.{Trace, no_trace, joined}
+use Rattle.hg_line.specs.Printing.{PrintsLine}
+use Rattle.hg_line.specs.Lines.{DoesLine}
+use Rattle.hg_script.specs.Scripts.{IsRunOf}
 
 -- the lines, the first of which has this number, are done one after another, and each prints what stands at its place
 abbrev pub PrintsLines : ℕ → Fleet → List Text → Trace → Fleet → List Text → Type 0

@@ -1,15 +1,6 @@
 pub mod ByLine
-pub mod Commands
-pub mod Endings
-pub mod Entries
-pub mod Events
-pub mod Faults
+pub mod Inputs
 pub mod Limits
-pub mod Outputs
 pub mod Printing
-pub mod Reports
 pub mod Scripts
 pub mod Stops
-pub mod Outcomes
-pub mod Unstable
-pub mod Words

@@ -1,30 +1,20 @@
 -- How a script is stopped before its last line is done, and what was written until then.
-use Rattle.std.specs.Prelude.{ℕ, ◌≡◌, ◌≢◌, ◌⊎◌, ◌<◌, ◌+◌, List, [], ◌∷◌, ◌++◌, length, count_by, Option, IfSome}
+use Rattle.std.specs.Prelude.{ℕ, ◌≡◌, ◌⊎◌, ◌<◌, ◌+◌, List, [], ◌∷◌, ◌++◌, length, count_by, Option, IfSome}
 use Rattle.std.specs.Str.Lines.{lines}
-use Rattle.hg_script.specs.declared.fault.RunFault.{RunFault}
-use Rattle.hg_script.specs.declared.fault.RunFault.TheVariants.{Line, ScriptTooLong, Read, Write, NoMemory}
-use Rattle.hg_script.specs.declared.fleet.Fleet.{Fleet}
-use Rattle.hg_script.specs.declared.telling.Notes.{Notes}
-use Rattle.hg_script.specs.Commands.{Text}
-use Rattle.hg_script.specs.Endings.{EndsAt, IsOfLine}
-use Rattle.hg_script.specs.Events.{Trace}
+use Rattle.hg_line.specs.declared.fault.RunFault.{RunFault}
+use Rattle.hg_line.specs.declared.fault.RunFault.TheVariants.{Line, ScriptTooLong, Read, Write, NoMemory}
+use Rattle.hg_line.specs.declared.fleet.Fleet.{Fleet}
+use Rattle.hg_line.specs.declared.telling.Notes.{Notes}
+use Rattle.hg_line.specs.Commands.{Text}
+use Rattle.hg_line.specs.Endings.{IsOfLine}
+use Rattle.hg_line.specs.Events.{Trace}
+use Rattle.hg_line.specs.Outputs.{Printed}
+use Rattle.hg_line.specs.Lines.{IsNewFleet}
+use Rattle.hg_line.specs.Stops.{StopsAt}
+use Rattle.hg_line.specs.Words.{has_node}
 use Rattle.hg_script.specs.Limits.{script_limit}
-use Rattle.hg_script.specs.Outputs.{Printed}
-use Rattle.hg_script.specs.Printing.{WritesLine, WritesLines, no_notes}
-use Rattle.hg_script.specs.Scripts.{IsNewFleet, IsScriptOf}
-use Rattle.hg_script.specs.Words.{has_node}
-
--- the line with this number is done, and what is written of it isn't empty
-abbrev pub WritesSome : Notes → ℕ → Fleet → Text → Type 0
-WritesSome notes number f line =
-    (t : Trace) × (new : Fleet) × (written : Text) × WritesLine notes number f line t new written × (written ≢ [])
-
--- how the line with this number can end the script that is run with these notes: as it ends any script, but by a write
--- fault, where there are notes, only once it is done
-abbrev pub StopsAt : Notes → ℕ → Fleet → Text → RunFault → Type 0
-StopsAt notes number f line Write =
-    ((notes ≡ no_notes) × EndsAt number f line Write) ⊎ WritesSome notes number f line
-StopsAt notes number f line fault = EndsAt number f line fault
+use Rattle.hg_script.specs.Printing.{WritesLines}
+use Rattle.hg_script.specs.Scripts.{IsScriptOf}
 
 -- the lines before one were done, and this one ended the script; the first has this number. What the writer holds grew
 -- by what was written of those before, and then by what this one wrote until it ended: by nothing, where its own fault

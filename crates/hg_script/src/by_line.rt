@@ -3,21 +3,15 @@ ghost use Rattle.std.specs.Prelude.{◌≡◌, ◌⊎◌, IfOk, IfErr, None};
 ghost use Rattle.std.specs.Str.Lines.{lines};
 ghost use Rattle.hg_expect.specs.Expectations.{texts};
 ghost use Rattle.hg_script.specs.ByLine.{PrintsEach, PrintsLines};
-ghost use Rattle.hg_script.specs.Endings.{EndsAt};
-ghost use Rattle.hg_script.specs.Events.{Trace};
-ghost use Rattle.hg_script.specs.Printing.{PrintsLine, no_notes};
-ghost use Rattle.hg_script.specs.Scripts.{DoesLine, IsScriptOf};
+ghost use Rattle.hg_line.specs.Events.{Trace};
+ghost use Rattle.hg_line.specs.Printing.{no_notes};
+ghost use Rattle.hg_script.specs.Scripts.{IsScriptOf};
 ghost use Rattle.hg_script.specs.Stops.{IsStop, IsStoppedBy, IsUnbegun, StopsAmong};
-ghost use Rattle.hg_script.specs.declared.fault.RunFault.TheVariants.{NoMemory};
+ghost use Rattle.hg_line.specs.declared.fault.RunFault.TheVariants.{NoMemory};
 
-use crate::entry_buffers::EntryBuffers;
-use crate::fault::RunFault;
-use crate::fleet::Fleet;
 use crate::input::read_script;
-use crate::lines::count_nodes;
-use crate::script::run_line;
-use crate::telling::in_text;
 use hg_expect::cut_line;
+use hg_line::{EntryBuffers, Fleet, RunFault, count_nodes, output_of};
 use hg_node_set::IdKeys;
 use hg_peer::Peer;
 use hg_world::runs_compose;
@@ -80,24 +74,4 @@ fn outputs_in(alloc: Global, fleet: &mut Fleet, text: &[u8]) -> Result<Vec<Vec<u
         rest = after;
     }
     Ok(outputs)
-}
-
-// Does the line with this number, with the buffers of an entry where it makes a changeset, and gives
-// what it prints.
-fn output_of(
-    alloc: Global,
-    fleet: &mut Fleet,
-    number: usize,
-    line: &[u8],
-    buffers: &mut EntryBuffers,
-) -> Result<Vec<u8>, RunFault>
-    ensures done { IfOk result (λ output. (t : Trace) × DoesLine fleet.old line.now t fleet.new
-        × PrintsLine number fleet.old line.now t output.items) }
-    ensures stopped { IfErr result (EndsAt number fleet.old line.now) }
-{
-    let mut output = Vec::new(alloc);
-    match run_line(alloc, fleet, number, line, buffers, &mut output) {
-        Ok(_) => Ok(output),
-        Err(fault) => Err(in_text(fault)),
-    }
 }

@@ -2,16 +2,18 @@
 ghost use Rattle.std.specs.Prelude.{◌≡◌, ◌<◌, ◌≤◌, ◌+◌, ℕ, List, Option, ◌⊎◌, length, IfOk, IfErr, IfSome, OnOk};
 ghost use Rattle.std.specs.Prelude.{IsErrOf};
 ghost use Rattle.std.specs.Io.KnownBytes.{Consumes, IsAtEnd};
-ghost use Rattle.hg_script.specs.Faults.{IsInputFault};
+ghost use Rattle.hg_script.specs.Inputs.{IsInputFault};
 ghost use Rattle.hg_script.specs.Limits.{script_limit};
 
 use crate::counted::{Counted, CountedRead};
-use crate::fault::RunFault;
-use crate::limits::SCRIPT_LIMIT;
+use hg_line::RunFault;
 use std::alloc::Global;
 use std::io::Read;
 use std::marker::Brand;
 use std::sync::ledger::{Blank, Ledger};
+
+// The most bytes that a script may have.
+const SCRIPT_LIMIT: usize = 1_048_576;
 
 // How many bytes a read asks for.
 const CHUNK: usize = 8192;

@@ -1,8 +1,8 @@
-//! Scripts of a fleet: their language, and what their lines do.
+//! Scripts of a fleet.
 //!
 //! A script comes in by any reader, and what its lines report goes out by any writer: [`run_script`] reads the whole
-//! script, does its lines in order and prints what they report. A line is divided into words and read as a command
-//! before anything is done. What a line's replica refuses is printed, and the script goes on; a [`RunFault`] ends it.
+//! script, does its lines in order ([`hg_line`]) and prints what they report. What a line's replica refuses is printed,
+//! and the script goes on; a [`RunFault`] ends it.
 //!
 //! The replicas of a script are the peers of a world ([`hg_world`], [`hg_peer`]), which begins new, and each command is
 //! events of it. So whatever a script does is one run of that world, and the laws of runs say what became of it:
@@ -28,38 +28,15 @@
 //! ```
 #![tactic(auto)]
 
-mod blaming;
 mod by_line;
-mod command;
-mod command_fault;
 mod counted;
-mod disagreement;
-mod entry_buffers;
-mod event;
-mod explaining;
-mod fault;
-mod fleet;
-mod hint;
 mod input;
-mod limits;
-mod line_outcome;
-mod lines;
-mod marking;
-mod operation;
-mod origin;
-mod output;
-mod reading;
-mod report;
 mod script;
 mod steps;
 mod telling;
-mod tracing;
-mod unstable;
 
 pub use by_line::{PrintedScript, run_by_line};
-pub use fault::{LineFault, RunFault};
-pub use fleet::Fleet;
+pub use hg_line::{Fleet, LineFault, NotedFault, Notes, RunFault};
 pub use input::read_script;
-pub use output::printed_lines_are_those_of_the_format;
 pub use script::{run_fleet, run_script};
-pub use telling::{NotedFault, Notes, Outcome, run_with_notes};
+pub use telling::{Outcome, run_with_notes};

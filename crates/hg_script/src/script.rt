@@ -1,25 +1,20 @@
 //! A script from its first line to its last.
-ghost use Rattle.std.specs.Prelude.{◌≡◌, ◌≤◌, ◌+◌, ◌⊎◌, IfOk, IfErr, OnErr, OnOk};
+ghost use Rattle.std.specs.Prelude.{◌+◌, ◌⊎◌, IfOk, IfErr, OnOk};
 ghost use Rattle.std.specs.Str.Lines.{lines};
 ghost use Rattle.hg_view.specs.Kept.{KeptValue};
 ghost use Rattle.hg_world.specs.Runs.{Snapshot};
-ghost use Rattle.hg_script.specs.Commands.{Text};
-ghost use Rattle.hg_script.specs.Events.{Trace};
-ghost use Rattle.hg_script.specs.Endings.{EndsAt, StaysAtLine};
-ghost use Rattle.hg_script.specs.Outputs.{Grows, Printed};
-ghost use Rattle.hg_script.specs.Printing.{PrintsLine, WritesLines, WritesRun, WritesScript, no_notes};
-ghost use Rattle.hg_script.specs.Scripts.{DoesLine, IsLeftFleet, IsLeftWorld, IsRunTo, world_of};
+ghost use Rattle.hg_line.specs.Commands.{Text};
+ghost use Rattle.hg_line.specs.Events.{Trace};
+ghost use Rattle.hg_line.specs.Outputs.{Printed};
+ghost use Rattle.hg_line.specs.Printing.{no_notes};
+ghost use Rattle.hg_script.specs.Printing.{WritesLines, WritesRun, WritesScript};
+ghost use Rattle.hg_line.specs.Lines.{world_of};
+ghost use Rattle.hg_script.specs.Scripts.{IsLeftFleet, IsLeftWorld, IsRunTo};
 ghost use Rattle.hg_script.specs.Stops.{IsStop, IsStoppedBy, IsUnbegun, StopsAmong};
-ghost use Rattle.hg_script.specs.Outcomes.{outcome_answers};
 
-use crate::entry_buffers::EntryBuffers;
-use crate::fault::{LineFault, RunFault};
-use crate::fleet::Fleet;
 use crate::input::read_script;
-use crate::line_outcome::LineOutcome;
-use crate::lines::{count_nodes, is_short, words_of};
-use crate::reading::read_command;
 use hg_expect::cut_line;
+use hg_line::{EntryBuffers, Fleet, RunFault, count_nodes, run_line};
 use hg_node_set::IdKeys;
 use hg_peer::Peer;
 use hg_world::runs_compose;
@@ -107,35 +102,4 @@ fn run_lines<W: Write>(
         rest = after;
     }
     Ok(())
-}
-
-/// Does the line with this number, with the buffers of an entry where it makes a changeset. It gives what the events of
-/// the line were answered.
-#[tactic(auto, using(crate::proofs::GrowLemmas::grows_stays))]
-pub(crate) fn run_line<W: Write>(
-    alloc: Global,
-    fleet: &mut Fleet,
-    number: usize,
-    line: &[u8],
-    buffers: &mut EntryBuffers,
-    writer: &mut W,
-) -> Result<LineOutcome, RunFault>
-    ensures done { IfOk result (λ outcome. (t : Trace) × (output : Text) × DoesLine fleet.old line.now t fleet.new
-        × PrintsLine number fleet.old line.now t output
-        × Printed (W.contents writer.old) output (W.contents writer.new) × (outcome_answers outcome ≡ t.answers)) }
-    ensures stopped { IfErr result (EndsAt number fleet.old line.now) }
-    ensures unprinted { StaysAtLine result (W.contents writer.old) (W.contents writer.new) }
-    ensures grows { OnErr result (Grows (W.contents writer.old) (W.contents writer.new)) }
-{
-    if !is_short(line) {
-        return Err(RunFault::Line(number, LineFault::TooLong));
-    }
-    let words = words_of(alloc, line)?;
-    let command = match read_command(words.as_slice()) {
-        Ok(Some(command)) => command,
-        Ok(None) => return Ok(LineOutcome::Nothing),
-        Err(fault) => return Err(RunFault::Line(number, fault)),
-    };
-    let outcome = fleet.execute(number, command, buffers, writer)?;
-    Ok(outcome)
 }

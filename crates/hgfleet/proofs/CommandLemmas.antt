@@ -6,7 +6,7 @@ use Rattle.std.specs.declared.alloc.Global.{Global}
 use Rattle.std.proofs.lemmas.List.{append-nil, append_assoc, drop_more, drop_all}
 use Rattle.hg_log.specs.Drawings.{ArePieces, Text}
 use Rattle.hg_log.specs.Objects.{NodeState}
-use Rattle.hg_script.specs.declared.fleet.Fleet.{Fleet}
+use Rattle.hg_line.specs.declared.fleet.Fleet.{Fleet}
 use Rattle.hgfleet.specs.Arguments.{texts_of}
 use Rattle.hgfleet.specs.declared.drawing.Drawing.{Drawing}
 use Rattle.hgfleet.specs.Commands.{AreDrawnBehind, IsDrawn, drawn_names, node_state_of, node_states_of}

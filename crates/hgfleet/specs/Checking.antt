@@ -5,9 +5,9 @@ use Rattle.std.specs.Str.Lines.{lines}
 use Rattle.hg_expect.specs.declared.checking.Checked.{Checked}
 use Rattle.hg_expect.specs.Filled.{account, differing, filled_text, told}
 use Rattle.hg_log.specs.Drawings.{Text}
-use Rattle.hg_script.specs.declared.fault.RunFault.TheVariants.{NoMemory, Write}
+use Rattle.hg_line.specs.declared.fault.RunFault.TheVariants.{NoMemory, Write}
 use Rattle.hg_script.specs.ByLine.{PrintsEach}
-use Rattle.hg_script.specs.Printing.{no_notes}
+use Rattle.hg_line.specs.Printing.{no_notes}
 use Rattle.hg_script.specs.Scripts.{IsScriptOf}
 use Rattle.hg_script.specs.Stops.{IsStop}
 use Rattle.hgfleet.specs.declared.failure.Failure.{Failure}

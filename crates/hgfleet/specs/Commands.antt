@@ -17,16 +17,19 @@ use Rattle.hg_phaseroots.specs.Reading.{Root}
 use Rattle.hg_phaseroots.specs.Writing.{IsWritten}
 use Rattle.hg_race.specs.Lines.{race_lines}
 use Rattle.hg_race.specs.Pairs.{IsOfPairs}
-use Rattle.hg_script.specs.declared.fault.RunFault.{RunFault}
+use Rattle.hg_line.specs.declared.fault.RunFault.{RunFault}
 use Rattle.hg_replica.specs.Content.{content_of}
-use Rattle.hg_script.specs.declared.fault.RunFault.TheVariants.{Read, NoMemory, ScriptTooLong}
-use Rattle.hg_script.specs.declared.fault.RunFault.TheVariants as run
-use Rattle.hg_script.specs.declared.fleet.Fleet.{Fleet}
-use Rattle.hg_script.specs.declared.telling.Notes.{Notes}
-use Rattle.hg_script.specs.Faults.{IsInputFault, status_of as run_status}
+use Rattle.hg_line.specs.declared.fault.RunFault.TheVariants.{Read, NoMemory, ScriptTooLong}
+use Rattle.hg_line.specs.declared.fault.RunFault.TheVariants as run
+use Rattle.hg_line.specs.declared.fleet.Fleet.{Fleet}
+use Rattle.hg_line.specs.declared.telling.Notes.{Notes}
+use Rattle.hg_line.specs.Faults.{status_of as run_status}
+use Rattle.hg_script.specs.Inputs.{IsInputFault}
 use Rattle.hg_script.specs.Limits.{script_limit}
-use Rattle.hg_script.specs.Printing.{WritesCounted, WritesScript, no_notes}
-use Rattle.hg_script.specs.Scripts.{IsLeftFleet, IsScriptOf, ids, message_named, node_named, node_names}
+use Rattle.hg_line.specs.Printing.{no_notes}
+use Rattle.hg_script.specs.Printing.{WritesCounted, WritesScript}
+use Rattle.hg_line.specs.Lines.{ids, message_named, node_named, node_names}
+use Rattle.hg_script.specs.Scripts.{IsLeftFleet, IsScriptOf}
 use Rattle.hg_script.specs.Stops.{IsStop}
 use Rattle.hg_show.specs.declared.form.Form.{Form}
 use Rattle.hg_show.specs.declared.form.Form.TheVariants.{Store, Roots, Message}

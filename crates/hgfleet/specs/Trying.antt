@@ -15,7 +15,7 @@ use Rattle.hg_message.specs.Value.{MessageValue}
 use Rattle.hg_preview.specs.Answers.{AreAnswersText}
 use Rattle.hg_preview.specs.Comparisons.{ComparesMessages}
 use Rattle.hg_replica.specs.State.{ReplicaState, nothing_held}
-use Rattle.hg_script.specs.declared.fault.RunFault.TheVariants.{NoMemory, Read, Write}
+use Rattle.hg_line.specs.declared.fault.RunFault.TheVariants.{NoMemory, Read, Write}
 use Rattle.hg_trial.specs.declared.tried.Answer.{Answer}
 use Rattle.hg_trial.specs.declared.tried.Answer.TheVariants.{Taken, Refused}
 use Rattle.hg_trial.specs.Trials.{AnswersTo, IsLeastOfTaken}

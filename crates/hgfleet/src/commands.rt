@@ -5,7 +5,7 @@ ghost use Rattle.std.specs.Io.KnownBytes.{Appends};
 ghost use Rattle.hg_log.specs.Objects.{names_and_states};
 ghost use Rattle.hg_script.specs.Printing.{WritesCounted};
 ghost use Rattle.hg_script.specs.Scripts.{IsLeftFleet};
-ghost use Rattle.hg_script.specs.Scripts.{node_named};
+ghost use Rattle.hg_line.specs.Lines.{node_named};
 ghost use Rattle.hgfleet.specs.Arguments.{IsWithinBounds, texts_of};
 ghost use Rattle.hgfleet.specs.Commands.{AreDrawn, AreShown, DoesWanted, DrawsFront, DrawsNodes, DrawsUpTo};
 ghost use Rattle.hgfleet.specs.Commands.{EndsAfterScript, EndsFront, EndsUpTo, EndsWithNotes, IsDoneWithNotes};

@@ -2,7 +2,7 @@
 ghost use Rattle.std.specs.Prelude.{List, ℕ, All, IsSome, MatchOption, OnOk, map, string_bytes};
 ghost use Rattle.std.specs.Io.KnownBytes.{Appends};
 ghost use Rattle.hg_log.specs.Drawings.{ArePieces};
-ghost use Rattle.hg_script.specs.Scripts.{ids};
+ghost use Rattle.hg_line.specs.Lines.{ids};
 ghost use Rattle.hgfleet.specs.Arguments.{texts_of};
 ghost use Rattle.hgfleet.specs.Commands.{AreFates, AreFatesAt, IsFateAt, IsFateIn, IsUnlabelledAmong};
 

@@ -4,7 +4,8 @@ use Rattle.std.proofs.lemmas.List.{nil_from_length}
 use Rattle.std.proofs.lemmas.Result.{err_from_is_err_and}
 use Rattle.std.specs.Str.Lines.{lines}
 use Rattle.hg_script.proofs.ByLineLemmas.{prints_on-end, prints_on-more, prints_on-start, texts-push}
-use Rattle.hg_script.proofs.EndingLemmas.{bare_stops, stops_here}
+use Rattle.hg_line.proofs.EndingLemmas.{bare_stops}
+use Rattle.hg_script.proofs.EndingLemmas.{stops_here}
 use Rattle.hg_script.proofs.by_line.outputs_in.Goals as goal
 
 pub loop-rest-init : goal.loop-rest-init

@@ -1,6 +1,6 @@
 use Rattle.std.proofs.Common.{ℕ, None, refl, subst, inl, inr}
 use Rattle.std.proofs.lemmas.Result.{IfErr-weaker, IfOk-weaker, err_from_is_err_and}
-use Rattle.hg_script.specs.Scripts.{IsNewFleet}
+use Rattle.hg_line.specs.Lines.{IsNewFleet}
 use Rattle.hg_script.proofs.ByLineLemmas.{prints_each}
 use Rattle.hg_script.proofs.EndingLemmas.{stopped_text}
 use Rattle.hg_script.proofs.by_line.outputs_of.Goals as goal

@@ -2,7 +2,7 @@ use Rattle.std.proofs.Common.{None, refl, subst}
 use Rattle.std.proofs.lemmas.Result.{err_from_is_err_and}
 use Rattle.hg_expect.specs.Expectations.{texts}
 use Rattle.hg_script.specs.ByLine.{PrintsEach}
-use Rattle.hg_script.specs.Commands.{Text}
+use Rattle.hg_line.specs.Commands.{Text}
 use Rattle.hg_script.proofs.EndingLemmas.{input_stop, script_of, stop_of}
 use Rattle.hg_script.proofs.by_line.run_by_line.Goals as goal
 

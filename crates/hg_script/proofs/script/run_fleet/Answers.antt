@@ -1,8 +1,9 @@
 use Rattle.std.proofs.lemmas.Result.{err_from_is_err_and}
-use Rattle.hg_script.specs.declared.fault.RunFault.{RunFault}
-use Rattle.hg_script.specs.declared.fleet.Fleet.{Fleet}
-use Rattle.hg_script.specs.Commands.{Text}
-use Rattle.hg_script.specs.Printing.{WritesRun, no_notes}
+use Rattle.hg_line.specs.declared.fault.RunFault.{RunFault}
+use Rattle.hg_line.specs.declared.fleet.Fleet.{Fleet}
+use Rattle.hg_line.specs.Commands.{Text}
+use Rattle.hg_line.specs.Printing.{no_notes}
+use Rattle.hg_script.specs.Printing.{WritesRun}
 use Rattle.hg_script.specs.Scripts.{IsRunTo}
 use Rattle.hg_script.proofs.EndingLemmas.{input_stop, script_of, stops_of, of_script}
 use Rattle.hg_script.proofs.script.run_fleet.Goals as goal

@@ -3,9 +3,10 @@ use Rattle.std.proofs.lemmas.Bool.{eqb-true}
 use Rattle.std.proofs.lemmas.List.{nil_from_length}
 use Rattle.std.proofs.lemmas.Result.{err_from_is_err_and}
 use Rattle.std.specs.Str.Lines.{lines}
-use Rattle.hg_script.proofs.EndingLemmas.{bare_stops, goes_on-end, goes_on-more, goes_on-start, stays_own, stops_here}
-use Rattle.hg_script.proofs.ScriptLemmas.{bare_line}
-use Rattle.hg_script.specs.Events.{refusals}
+use Rattle.hg_line.proofs.EndingLemmas.{bare_stops, stays_own}
+use Rattle.hg_script.proofs.EndingLemmas.{goes_on-end, goes_on-more, goes_on-start, stops_here}
+use Rattle.hg_line.proofs.LineLemmas.{bare_line}
+use Rattle.hg_line.specs.Events.{refusals}
 use Rattle.hg_script.proofs.script.run_lines.Goals as goal
 
 pub loop-rest-init : goal.loop-rest-init

@@ -1,6 +1,6 @@
 use Rattle.std.proofs.Common.{ℕ, ◌+◌, ◌≤◌, length}
 use Rattle.std.specs.Str.Lines.{lines}
-use Rattle.hg_script.specs.Printing.{no_notes}
+use Rattle.hg_line.specs.Printing.{no_notes}
 use Rattle.hg_script.proofs.EndingLemmas.{GoesOn}
 use Rattle.hg_script.proofs.script.run_lines.Given as goal
 

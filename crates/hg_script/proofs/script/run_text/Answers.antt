@@ -1,7 +1,7 @@
 use Rattle.std.proofs.Common.{ℕ, refl, subst, inl, inr}
 use Rattle.std.proofs.lemmas.Result.{err_from_is_err_and}
-use Rattle.hg_script.specs.Printing.{no_notes}
-use Rattle.hg_script.specs.Scripts.{IsNewFleet}
+use Rattle.hg_line.specs.Printing.{no_notes}
+use Rattle.hg_line.specs.Lines.{IsNewFleet}
 use Rattle.hg_script.proofs.EndingLemmas.{stopped_text}
 use Rattle.hg_script.proofs.ScriptLemmas.{run_to, written_run}
 use Rattle.hg_script.proofs.script.run_text.Goals as goal

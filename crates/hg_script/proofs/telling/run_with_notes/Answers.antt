@@ -1,9 +1,9 @@
 use Rattle.std.proofs.lemmas.Result.{err_from_is_err_and}
 use Rattle.std.proofs.Common.{◌≡◌}
 use Rattle.hg_script.specs.declared.telling.Outcome.{Outcome}
-use Rattle.hg_script.specs.declared.telling.NotedFault.{NotedFault}
-use Rattle.hg_script.specs.Commands.{Text}
-use Rattle.hg_script.specs.Events.{refusals}
+use Rattle.hg_line.specs.declared.telling.NotedFault.{NotedFault}
+use Rattle.hg_line.specs.Commands.{Text}
+use Rattle.hg_line.specs.Events.{refusals}
 use Rattle.hg_script.specs.Printing.{WritesRun}
 use Rattle.hg_script.specs.Scripts.{IsRunTo}
 use Rattle.hg_script.proofs.EndingLemmas.{input_stop, script_of, stops_of, of_script}

@@ -1,6 +1,6 @@
 use Rattle.std.proofs.Common.{ℕ, refl, inl, inr, subst}
 use Rattle.std.proofs.lemmas.Result.{err_from_is_err_and}
-use Rattle.hg_script.specs.Scripts.{IsNewFleet}
+use Rattle.hg_line.specs.Lines.{IsNewFleet}
 use Rattle.hg_script.proofs.EndingLemmas.{stopped_text}
 use Rattle.hg_script.proofs.ScriptLemmas.{counted_run, run_to}
 use Rattle.hg_script.proofs.telling.tell_text.Goals as goal

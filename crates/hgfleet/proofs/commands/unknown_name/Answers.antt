@@ -2,7 +2,7 @@ use Rattle.std.proofs.Common.{◌∙◌, ℕ, All, IsSome, List, Option, String,
 use Rattle.std.specs.declared.alloc.Global.{Global}
 use Rattle.std.proofs.lemmas.List.{take_all}
 use Rattle.std.proofs.lemmas.List.Elements.{All-more}
-use Rattle.hg_script.specs.Scripts.{node_named}
+use Rattle.hg_line.specs.Lines.{node_named}
 use Rattle.hg_view.specs.Kept.{KeptValue}
 use Rattle.hgfleet.proofs.commands.unknown_name.Goals as goal
 

@@ -1,5 +1,5 @@
 use Rattle.std.proofs.Common.{All, IsSome, string_bytes, take}
-use Rattle.hg_script.specs.Scripts.{node_named}
+use Rattle.hg_line.specs.Lines.{node_named}
 use Rattle.hgfleet.proofs.commands.unknown_name.Given as goal
 
 abbrev pub invariant-loop-name : goal.invariant-loop-name

@@ -2,7 +2,7 @@ use Rattle.std.proofs.Common.{◌∙◌, ℕ, All, IsSome, List, Option, String,
 use Rattle.std.specs.declared.alloc.Global.{Global}
 use Rattle.std.proofs.lemmas.List.{take_all}
 use Rattle.std.proofs.lemmas.List.Elements.{All-more}
-use Rattle.hg_script.specs.Scripts.{ids}
+use Rattle.hg_line.specs.Lines.{ids}
 use Rattle.hg_changeset.specs.declared.node.Node.{Node}
 use Rattle.hgfleet.proofs.fates.unknown_label.Goals as goal
 

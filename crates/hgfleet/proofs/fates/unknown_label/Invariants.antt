@@ -1,5 +1,5 @@
 use Rattle.std.proofs.Common.{All, IsSome, string_bytes, take}
-use Rattle.hg_script.specs.Scripts.{ids}
+use Rattle.hg_line.specs.Lines.{ids}
 use Rattle.hgfleet.proofs.fates.unknown_label.Given as goal
 
 abbrev pub invariant-loop-label : goal.invariant-loop-label

@@ -2,7 +2,7 @@ use Rattle.std.proofs.Common.{[], ◌++◌, ◌∙◌, List, ap, map, string_byt
 use Rattle.std.proofs.KnownBytes.{Appends-trans, Appends-nil}
 use Rattle.std.specs.Borrow.{Bor}
 use Rattle.hg_log.specs.Drawings.{Text}
-use Rattle.hg_script.specs.Scripts.{node_names}
+use Rattle.hg_line.specs.Lines.{node_names}
 use Rattle.hgfleet.specs.Commands.{AreFatesAt}
 use Rattle.hgfleet.proofs.CommandLemmas.{next_piece, no_piece}
 use Rattle.hgfleet.proofs.fates.write_fates.Goals as goal

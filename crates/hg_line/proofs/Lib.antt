@@ -1,0 +1,10 @@
+pub mod EndingLemmas
+pub mod GatherLemmas
+pub mod GrowLemmas
+pub mod LabelLemmas
+pub mod LineLemmas
+pub mod NameLemmas
+pub mod NoteLemmas
+pub mod ReportLemmas
+pub mod UnstableLemmas
+pub mod WordLemmas

@@ -1,0 +1,14 @@
+pub mod Commands
+pub mod Endings
+pub mod Entries
+pub mod Events
+pub mod Faults
+pub mod Limits
+pub mod Lines
+pub mod Outcomes
+pub mod Outputs
+pub mod Printing
+pub mod Reports
+pub mod Stops
+pub mod Unstable
+pub mod Words

@@ -1,7 +1,0 @@
-use Rattle.std.proofs.Common.{take}
-use Rattle.hg_script.specs.Events.{AreIds}
-use Rattle.hg_names.specs.Labels.{labelled}
-use Rattle.hg_script.proofs.operation.Names.nodes.Given as goal
-
-abbrev pub invariant-loop-label : goal.invariant-loop-label
-invariant-loop-label l = AreIds (labelled l.self.labels.now) (take l.label-index l.labels) l.nodes.items
