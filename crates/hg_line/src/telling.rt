@@ -100,8 +100,8 @@ impl From<hg_join::NoMemory> for NotedFault {
     }
 }
 
-/// The fault that ended the script of this text, with the line that gave the name which it is about, where that is asked
-/// for. The lines with these numbers were refused.
+/// The fault that ended the script of this text, with the line that gave the name which it is about, where that is
+/// asked for. The lines with these numbers were refused.
 pub fn with_origin(
     alloc: Global,
     fleet: &Fleet,
