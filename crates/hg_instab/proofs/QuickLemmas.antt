@@ -18,7 +18,7 @@ use Rattle.hg_replica.proofs.MarkerLemmas.{holds-from}
 use Rattle.hg_instab.specs.AfterPublic.{IsSource, IsAfterAny, IsStart as IsWalkStart}
 use Rattle.hg_instab.specs.Amend.{IsOnlyFresh}
 use Rattle.hg_instab.specs.Changed.{IsFresh, IsMoved, IsChangedTo, IsSeed, Follows}
-use Rattle.hg_instab.specs.declared.quick.Turning.TheVariants.{Nothing, NewlyExtinct}
+use Rattle.hg_instab.specs.declared.turning.Turning.TheVariants.{Nothing, NewlyExtinct}
 use Rattle.hg_instab.specs.Instabilities.{IsContentDivergent, InstabilitySets, AreInstabilities}
 use Rattle.hg_instab.specs.Local.{IsParentOf, StandsUnstably, HoldsNothing}
 use Rattle.hg_instab.specs.Near.{IsAfterPublic, IsRegion}

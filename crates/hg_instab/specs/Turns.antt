@@ -5,8 +5,8 @@ use Rattle.hg_changeset.specs.declared.node.Node.{Node}
 use Rattle.hg_changeset.specs.Node.{node_cmp}
 use Rattle.hg_instab.specs.declared.turn.Turn.{Turn}
 use Rattle.hg_instab.specs.declared.turns.Turns.{Turns}
-use Rattle.hg_instab.specs.declared.quick.Turning.{Turning}
-use Rattle.hg_instab.specs.declared.quick.Turning.TheVariants.{Nothing, NewlyExtinct}
+use Rattle.hg_instab.specs.declared.turning.Turning.{Turning}
+use Rattle.hg_instab.specs.declared.turning.Turning.TheVariants.{Nothing, NewlyExtinct, Each}
 use Rattle.hg_replica.specs.Content.{Content}
 use Rattle.hg_replica.specs.Evolution.{IsObsolete, IsOrphan, IsSuspended, IsExtinct, IsPhaseDivergent}
 use Rattle.hg_instab.specs.Instabilities.{InstabilitySets, AreInstabilities, IsContentDivergent}
@@ -120,8 +120,15 @@ pub record GainsExtinct (before : InstabilitySets) (P : Node → Type 0) (after 
   pub after_public : after.after_public ≡ before.after_public
   pub near_forks : after.near_forks ≡ before.near_forks
 
+-- what comes to each of the sets wasn't in it, and what goes was
+abbrev pub IsTurningOf : InstabilitySets → Turning → Type 0
+IsTurningOf sets Nothing = Unit {0}
+IsTurningOf sets (NewlyExtinct node) = Unit {0}
+IsTurningOf sets (Each turns) = AreTurns sets turns
+
 -- what it leaves of the sets is what those of g are to have
 abbrev pub TurnsTo : Content → InstabilitySets → Turning → Type 0
 TurnsTo g sets Nothing = AreInstabilities g sets
 TurnsTo g sets (NewlyExtinct node) = (after : InstabilitySets) → GainsExtinct sets (λ n. n ≡ node) after
     → AreInstabilities g after
+TurnsTo g sets (Each turns) = LeadTo g sets turns

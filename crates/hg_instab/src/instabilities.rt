@@ -1,18 +1,20 @@
 //! The sets of changesets of each kind.
 ghost use Rattle.std.specs.Prelude.{◌≡◌, IfOk, OnOk, OnErr};
 ghost use Rattle.hg_replica.specs.State.{ReplicaState};
-ghost use Rattle.hg_replica.specs.Content.{content_of};
+ghost use Rattle.hg_replica.specs.Content.{Content, content_of};
 ghost use Rattle.hg_instab.specs.Changed.{IsChangedTo};
 ghost use Rattle.hg_instab.specs.Instabilities.{AreInstabilities, InstabilitySets};
 ghost use Rattle.hg_instab.specs.Turns.{AreTurns, AreStages, HaveCome, AreThen, LeadTo, GainsExtinct};
+ghost use Rattle.hg_instab.specs.Turns.{IsTurningOf, TurnsTo};
 
 use crate::among::{current_among, obsolete_nodes, outside, set_of};
 use crate::child_hints::ChildHints;
 use crate::divergence::divergent_within;
 use crate::first::{after_public_ids, near_fork_ids};
 use crate::orphans::{orphan_nodes, suspended_nodes};
-use crate::quick::{Turning, quick_turning};
+use crate::quick::quick_turning;
 use crate::turn::{put, take_back};
+use crate::turning::Turning;
 use crate::turns::Turns;
 use hg_changeset::Node;
 use hg_replica::{Change, Replica};
@@ -130,18 +132,27 @@ impl Instabilities {
             // Nothing is unstable, and nothing was.
             return Ok(());
         }
+        let turning = self.turning(replica, change)?;
+        self.turn(&turning)
+    }
+
+    // What the change turns: as a few look-ups tell, or else by asking again whatever can have turned.
+    fn turning(&mut self, replica: &Replica, change: &Change) -> Result<Turning, AllocError>
+        ensures of { IfOk result (IsTurningOf self.old) }
+        ensures told { IfOk result (λ turning. (s : ReplicaState) → IsChangedTo s change.now replica.now
+            → AreInstabilities (content_of s) self.old → TurnsTo (content_of replica.now) self.old turning) }
+        ensures unchanged { self.new ≡ self.old }
+    {
         match quick_turning(self, replica, change) {
-            Some(Turning::Nothing) => Ok(()),
-            Some(Turning::NewlyExtinct(node)) => self.make_extinct(node),
+            Some(turning) => Ok(turning),
             None => {
                 let turns = self.asked(replica, change)?;
-                self.apply(&turns)
+                Ok(Turning::Each(turns))
             }
         }
     }
 
-    // What the change turns, by asking again whatever can have turned. The hints are noted at once: they are no part of
-    // the sets.
+    // What the change turns in each set. The hints are noted at once: they are no part of the sets.
     fn asked(&mut self, replica: &Replica, change: &Change) -> Result<Turns, AllocError>
         ensures turns { IfOk result (AreTurns self.old) }
         ensures told { IfOk result (λ turns. (s : ReplicaState) → IsChangedTo s change.now replica.now
@@ -152,6 +163,19 @@ impl Instabilities {
         let turns = Turns::asked(self.alloc, self, &mut hints, replica, change);
         self.hints = hints;
         turns
+    }
+
+    // Has the sets turn, or none of them.
+    fn turn(&mut self, turning: &Turning) -> Result<(), AllocError>
+        requires { IsTurningOf self.old turning.now }
+        ensures turned { OnOk result ((g : Content) → TurnsTo g self.old turning.now → AreInstabilities g self.new) }
+        ensures unchanged { OnErr result (self.new ≡ self.old) }
+    {
+        match turning {
+            Turning::Nothing => Ok(()),
+            Turning::NewlyExtinct(node) => self.make_extinct(*node),
+            Turning::Each(turns) => self.apply(turns),
+        }
     }
 
     // Puts the node among the obsolete and the extinct ones, or leaves both sets as they are.

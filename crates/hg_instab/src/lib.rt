@@ -29,12 +29,12 @@
 //! markers taken to be new; `divergence`, content-divergent changesets of a region; `among`, those of some nodes of
 //! which something holds; `walk`, steps over markers; `laws`, what the instabilities are a matter of.
 //!
-//! Kept from change to change: `instabilities`, the sets; `turns`, what a change turns in each; `quick`, the same by a
-//! few look-ups where these tell; `turn`, what comes to one set and goes from it. What else is asked: `seeds`, the ids
-//! that a change touched; `orphan_walk` and `extinct_walk`, by `settling`, which asks at places in the graph's order,
-//! `waiting`, the places that are still to be asked, `turned`, nodes whose answers differ, and `child_hints`, with
-//! which child a question begins; `after_public`, ids that newly come after something public; `near`, the region of ids
-//! that is asked again near forks, and `amend`, amends that need none.
+//! Kept from change to change: `instabilities`, the sets; `turning`, what a change turns, by `quick`, a few look-ups,
+//! where these tell, and else by `turns`, of each set; `turn`, what comes to one set and goes from it. What else is
+//! asked: `seeds`, the ids that a change touched; `orphan_walk` and `extinct_walk`, by `settling`, which asks at places
+//! in the graph's order, `waiting`, the places that are still to be asked, `turned`, nodes whose answers differ, and
+//! `child_hints`, with which child a question begins; `after_public`, ids that newly come after something public;
+//! `near`, the region of ids that is asked again near forks, and `amend`, amends that need none.
 #![tactic(auto)]
 
 mod after_public;
@@ -55,6 +55,7 @@ mod seeds;
 mod settling;
 mod turn;
 mod turned;
+mod turning;
 mod turns;
 mod waiting;
 mod walk;

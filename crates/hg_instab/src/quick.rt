@@ -13,7 +13,7 @@ ghost use Rattle.hg_instab.specs.Changed.{IsChangedTo};
 ghost use Rattle.hg_instab.specs.Instabilities.{AreInstabilities};
 ghost use Rattle.hg_instab.specs.Quick.{IsInNoSet, IsLeaf, StandsStably, IsStable, IsAway, AreStable};
 ghost use Rattle.hg_instab.specs.Quick.{AreUnchanged, IsRewrittenLeaf};
-ghost use Rattle.hg_instab.specs.Turns.{TurnsTo};
+ghost use Rattle.hg_instab.specs.Turns.{IsTurningOf, TurnsTo};
 
 use crate::amend::only_fresh;
 use crate::among::is_missing;
@@ -22,19 +22,12 @@ use crate::instabilities::Instabilities;
 use crate::near::names_near;
 use crate::orphan_walk::stands_on_unstable;
 use crate::query::{has_phase_at, is_predecessor};
+use crate::turning::Turning;
 use hg_changeset::Node;
 use hg_marker::Marker;
 use hg_phases::Phase;
 use hg_replica::{Change, Replica};
 use std::collections::BTreeSet;
-
-// What a change turns, where a few look-ups tell it.
-pub(crate) enum Turning {
-    // Nothing.
-    Nothing,
-    // This node becomes obsolete and extinct, and nothing else turns.
-    NewlyExtinct(Node),
-}
 
 // What a change turns in the sets, which were those before it, where a few look-ups tell.
 pub(crate) fn quick_turning(
@@ -42,7 +35,8 @@ pub(crate) fn quick_turning(
     replica: &Replica,
     change: &Change,
 ) -> Option<Turning>
-    ensures { IfSome result (λ turning. (s : ReplicaState) → IsChangedTo s change.now replica.now
+    ensures of { IfSome result (IsTurningOf sets.now) }
+    ensures told { IfSome result (λ turning. (s : ReplicaState) → IsChangedTo s change.now replica.now
         → AreInstabilities (content_of s) sets.now → TurnsTo (content_of replica.now) sets.now turning) }
 {
     replica.is_valid();
@@ -65,7 +59,8 @@ fn by_marker(
     change: &Change,
     marker: &Marker,
 ) -> Option<Turning>
-    ensures { IsOnlyFresh replica.now.markers change.now marker.now → IfSome result (λ turning. (s : ReplicaState)
+    ensures of { IfSome result (IsTurningOf sets.now) }
+    ensures told { IsOnlyFresh replica.now.markers change.now marker.now → IfSome result (λ turning. (s : ReplicaState)
         → IsChangedTo s change.now replica.now → AreInstabilities (content_of s) sets.now
         → TurnsTo (content_of replica.now) sets.now turning) }
 {

@@ -1,0 +1,18 @@
+use Rattle.std.proofs.Common.{subst}
+use Rattle.std.proofs.lemmas.Result.{on_ok_weaker}
+use Rattle.hg_instab.specs.Turns.{TurnsTo}
+use Rattle.hg_instab.proofs.KeptLemmas.{kept-then}
+use Rattle.hg_instab.proofs.instabilities.Instabilities.turn.Goals as goal
+
+pub returns-in-NewlyExtinct-clause-turned : goal.returns-in-NewlyExtinct-clause-turned
+returns-in-NewlyExtinct-clause-turned c =
+    on_ok_weaker c.make_extinct.result
+    (λ gained g told. subst (TurnsTo g c.args.self.now) c.in-NewlyExtinct.is told c.make_extinct.new.self gained)
+    c.make_extinct.ensures.gained
+
+pub returns-in-Each-clause-turned : goal.returns-in-Each-clause-turned
+returns-in-Each-clause-turned c =
+    on_ok_weaker c.apply.result
+    (λ then g told. kept-then g c.args.self.now c.apply.new.self c.in-Each.turns then
+    (subst (TurnsTo g c.args.self.now) c.in-Each.is told))
+    c.apply.ensures.then
