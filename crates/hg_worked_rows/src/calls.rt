@@ -12,6 +12,7 @@ use hg_view::{Kept, PinRefusal, Pins, served, share};
 use std::alloc::Global;
 use std::borrow::CowSlice;
 use std::collections::BTreeSet;
+use std::process::Abort;
 
 #[test]
 fn changesets_are_added_to_a_graph_once_and_copied(rt: HostRuntime) {
@@ -26,52 +27,78 @@ fn changesets_are_added_to_a_graph_once_and_copied(rt: HostRuntime) {
     assert!(rt; before.is_empty() && after.len() == 1 && after.node_at(0) == Some(EMPTY));
 }
 
-// The graph of the root without a text, and a list of it as a draft root.
-fn graph_of_empty(alloc: Global) -> Option<(Graph, Roots)> {
-    let root = Changeset::new(Node::NULL, Node::NULL, Vec::new(alloc)).ok()?;
+// The graph of the root without a text.
+fn graph_of_empty(rt: &impl Abort, alloc: Global) -> Graph {
+    let root = Changeset::new(Node::NULL, Node::NULL, Vec::new(alloc)).expect(rt, "a root");
     let mut graph = Graph::new(alloc);
-    graph.add(root).ok()?;
-    let listed = Vec::from_slice(alloc, &[(Phase::Draft, EMPTY)]).ok()?;
-    Some((graph, Roots::new(listed)))
+    assert!(rt; graph.add(root) == Ok(Added::New));
+    graph
+}
+
+// The list of that root as a draft.
+fn roots_of_empty(rt: &impl Abort, alloc: Global) -> Roots {
+    Roots::new(Vec::from_slice(alloc, &[(Phase::Draft, EMPTY)]).expect(rt, "memory"))
 }
 
 #[test]
-fn phases_are_copied_in_both_forms(rt: HostRuntime) {
+fn a_map_of_phases_is_copied(rt: HostRuntime) {
     let alloc = rt.alloc();
-    let (graph, roots) = graph_of_empty(alloc).expect(&rt, "memory");
+    let graph = graph_of_empty(&rt, alloc);
+    let roots = roots_of_empty(&rt, alloc);
     let map = PhaseMap::open(alloc, &graph, &roots).expect(&rt, "memory");
+    let copy = map.copy().expect(&rt, "memory");
+    assert!(rt; copy.phase_of(&graph, EMPTY) == Ok(Some(Phase::Draft)));
+}
+
+#[test]
+fn roots_of_phases_are_copied(rt: HostRuntime) {
+    let alloc = rt.alloc();
+    let graph = graph_of_empty(&rt, alloc);
+    let roots = roots_of_empty(&rt, alloc);
     let kept = PhaseRoots::open(alloc, &graph, &roots).expect(&rt, "memory");
-    let map_copy = map.copy().expect(&rt, "memory");
-    let kept_copy = kept.copy().expect(&rt, "memory");
-    assert!(rt; map_copy.phase_of(&graph, EMPTY) == Ok(Some(Phase::Draft)));
-    assert!(rt; kept_copy.phase_of(&graph, EMPTY) == Ok(Some(Phase::Draft)));
-    assert!(rt; kept_copy.roots.places() == [0usize].as_slice());
+    let copy = kept.copy().expect(&rt, "memory");
+    assert!(rt; copy.phase_of(&graph, EMPTY) == Ok(Some(Phase::Draft)));
+    assert!(rt; copy.roots.places() == [0usize].as_slice());
 }
 
 // The history that holds the root without a text, in this phase.
-fn history_of_empty(alloc: Global, phase: Phase) -> Option<History> {
-    let root = Changeset::new(Node::NULL, Node::NULL, Vec::new(alloc)).ok()?;
-    let changesets = [root];
+fn history_of_empty(rt: &impl Abort, alloc: Global, phase: Phase) -> History {
+    let root = Changeset::new(Node::NULL, Node::NULL, Vec::new(alloc)).expect(rt, "a root");
     let mut history = History::new(alloc);
-    let change = history.absorb(&changesets, &[(EMPTY, phase)]).ok()?;
-    if change.added.as_slice() == [EMPTY].as_slice() && change.lowered.is_empty() {
-        Some(history)
-    } else {
-        None
-    }
+    let change = history
+        .absorb(&[root], &[(EMPTY, phase)])
+        .expect(rt, "a change");
+    assert!(rt; change.added.as_slice() == [EMPTY].as_slice() && change.lowered.is_empty());
+    history
+}
+
+// Whether each is below the other.
+fn below_each_other(one: &History, other: &History) -> (bool, bool) {
+    (one.is_below(other), other.is_below(one))
 }
 
 #[test]
-fn histories_join_and_are_copied(rt: HostRuntime) {
+fn histories_join(rt: HostRuntime) {
     let alloc = rt.alloc();
-    let mut history = history_of_empty(alloc, Phase::Draft).expect(&rt, "memory");
-    let public = history_of_empty(alloc, Phase::Public).expect(&rt, "memory");
-    let copy = history.copy().expect(&rt, "memory");
+    let mut history = history_of_empty(&rt, alloc, Phase::Draft);
+    let public = history_of_empty(&rt, alloc, Phase::Public);
     assert!(rt; history.join(&public) == Ok(()));
     assert!(rt; history.phase_of(EMPTY) == Ok(Some(Phase::Public)));
     assert!(rt; history.phase_of(ONES) == Ok(None));
+}
+
+#[test]
+fn a_copy_of_a_history_stays_as_it_was(rt: HostRuntime) {
+    let alloc = rt.alloc();
+    let mut history = history_of_empty(&rt, alloc, Phase::Draft);
+    let copy = history.copy().expect(&rt, "memory");
+    assert!(rt; below_each_other(&copy, &history) == (true, true));
+    let change = history
+        .absorb(&[], &[(EMPTY, Phase::Public)])
+        .expect(&rt, "a change");
+    assert!(rt; change.lowered.as_slice() == [EMPTY].as_slice());
+    assert!(rt; below_each_other(&copy, &history) == (true, false));
     assert!(rt; copy.phase_of(EMPTY) == Ok(Some(Phase::Draft)));
-    assert!(rt; copy.is_below(&history) && !history.is_below(&copy));
 }
 
 // The part of a marker from one node to another.

@@ -53,12 +53,19 @@ fn a_pair_of_maps_joins_each_with_its_own(rt: HostRuntime) {
     let alloc = rt.alloc();
     let mut pair = pair_of(alloc, (0, 5), (1, 6)).expect(&rt, "memory");
     let other = pair_of(alloc, (0, 2), (3, 9)).expect(&rt, "memory");
-    let copy = pair.copy().expect(&rt, "memory");
     assert!(rt; both_lows(&pair) == [[5, 0, 0, 0], [0, 6, 0, 0]]);
     assert!(rt; pair.below(&other) == Ok(false) && pair.join(&other) == Ok(()));
-    assert!(rt; both_lows(&pair) == [[2, 0, 0, 0], [0, 6, 0, 9]]);
-    assert!(rt; both_lows(&copy) == [[5, 0, 0, 0], [0, 6, 0, 0]]);
-    assert!(rt; copy.below(&pair) == Ok(true) && other.below(&pair) == Ok(true));
+    assert!(rt; both_lows(&pair) == [[2, 0, 0, 0], [0, 6, 0, 9]] && other.below(&pair) == Ok(true));
+}
+
+#[test]
+fn a_copy_of_a_pair_stays_as_it_was(rt: HostRuntime) {
+    let alloc = rt.alloc();
+    let mut pair = pair_of(alloc, (0, 5), (1, 6)).expect(&rt, "memory");
+    let copy = pair.copy().expect(&rt, "memory");
+    let lower = Vec::from_slice(alloc, &[(0, 2)]).expect(&rt, "memory");
+    assert!(rt; pair.absorb(&(lower, Vec::new(alloc))) == Ok(((), ())));
+    assert!(rt; both_lows(&copy) == [[5, 0, 0, 0], [0, 6, 0, 0]] && copy.below(&pair) == Ok(true));
 }
 
 // The peer that holds the root without a text as a draft.
