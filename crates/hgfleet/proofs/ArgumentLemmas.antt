@@ -1,104 +1,24 @@
 -- What the parser tells at words that are written out.
-use Rattle.std.proofs.Common.{◌≡◌, ◌≢◌, ◌∷◌, [], List, length, map, codes, refl, inl, inr, ◌∙◌, ap, subst, arith, true}
-use Rattle.std.proofs.Common.{Result, Ok, Err, IfOk, Bor, get_or, Some, None}
+use Rattle.std.proofs.Common.{◌≡◌, ◌≢◌, ◌∷◌, [], List, length, map, refl, inl, inr, ◌∙◌, ap, subst, arith, true}
+use Rattle.std.proofs.Common.{Result, Ok, Err, IfOk, Bor, get_or}
 use Rattle.std.specs.Prelude.{drop}
 use Rattle.clap.specs.Words.{App, Text, Kinds, FailsBy, HasKind, IsAmong, fault_of, is_simple_and_free, kind_of}
 use Rattle.clap.specs.declared.error.Error.{Error}
-use Rattle.clap.specs.declared.error.kind.ErrorKind.TheVariants.{DisplayHelp, DisplayVersion, MissingSubcommand}
-use Rattle.clap.specs.declared.error.kind.ErrorKind.TheVariants.{UnknownArgument, OutOfMemory}
-use Rattle.clap.specs.declared.error.kind.ErrorKind.TheVariants.{MissingRequiredArgument, ValueValidation}
+use Rattle.clap.specs.declared.error.kind.ErrorKind.TheVariants.{OutOfMemory}
 use Rattle.clap.proofs.OnLiterals.{clap_on_literals}
+use Rattle.hgfleet.proofs.AskedLemmas.{are_asked_for}
 use Rattle.hgfleet.proofs.PlaceLemmas.{fault_alike_at}
 use Rattle.hgfleet.specs.Arguments.{ArgumentsAnswer, IsRun, IsWithinBounds, NamesForms, Words, faults_at, form_words}
-use Rattle.hgfleet.specs.Arguments.{program_at, race_numbers, reference}
+use Rattle.hgfleet.specs.Arguments.{program_at, reference}
 use Rattle.hgfleet.specs.declared.arguments.ArgumentFault.{ArgumentFault}
 use Rattle.hgfleet.specs.declared.arguments.Wanted.{Wanted}
 use Rattle.hgfleet.specs.declared.arguments.Wanted.TheVariants.{Run, RunWithNotes, Race, Log, Show, Write, Why, Fate}
 use Rattle.hgfleet.specs.declared.arguments.Wanted.TheVariants.{Help, Version, Try, Compare, Check}
 
-pub at_help : (name : Text) → faults_at (name ∷ codes "--help" ∷ []) ≡ DisplayHelp ∷ []
-unfolding clap_on_literals faults_at
-at_help name = refl
-
-pub at_short_help : (name : Text) → faults_at (name ∷ codes "-h" ∷ []) ≡ DisplayHelp ∷ []
-unfolding clap_on_literals faults_at
-at_short_help name = refl
-
-pub at_help_of_run : (name : Text) → faults_at (name ∷ codes "run" ∷ codes "--help" ∷ []) ≡ DisplayHelp ∷ []
-unfolding clap_on_literals faults_at
-at_help_of_run name = refl
-
-pub at_version : (name : Text) → faults_at (name ∷ codes "--version" ∷ []) ≡ DisplayVersion ∷ []
-unfolding clap_on_literals faults_at
-at_version name = refl
-
-pub at_nothing : (name : Text) → faults_at (name ∷ []) ≡ MissingSubcommand ∷ []
-unfolding clap_on_literals faults_at
-at_nothing name = refl
-
-pub at_run : (name : Text) → faults_at (name ∷ codes "run" ∷ []) ≡ []
-unfolding clap_on_literals faults_at
-at_run name = refl
-
-pub at_more : (name : Text) → faults_at (name ∷ codes "run" ∷ codes "x" ∷ []) ≡ UnknownArgument ∷ []
-unfolding clap_on_literals faults_at
-at_more name = refl
-
-pub at_run_numbers : (name : Text) → race_numbers (name ∷ codes "run" ∷ []) ≡ None
-unfolding clap_on_literals race_numbers
-at_run_numbers name = refl
-
-pub at_race : (name : Text)
-    → faults_at (name ∷ codes "race" ∷ codes "--nodes" ∷ codes "4" ∷ codes "--rounds" ∷ codes "3" ∷ []) ≡ []
-unfolding clap_on_literals faults_at
-at_race name = refl
-
-pub at_race_numbers : (name : Text)
-    → race_numbers (name ∷ codes "race" ∷ codes "--nodes" ∷ codes "4" ∷ codes "--rounds" ∷ codes "3" ∷ [])
-    ≡ Some (4, 3)
-unfolding clap_on_literals race_numbers
-at_race_numbers name = refl
-
-pub at_longest_race : (name : Text)
-    → faults_at (name ∷ codes "race" ∷ codes "--rounds=1000" ∷ codes "--nodes=16" ∷ []) ≡ []
-unfolding clap_on_literals faults_at
-at_longest_race name = refl
-
-pub at_longest_numbers : (name : Text)
-    → race_numbers (name ∷ codes "race" ∷ codes "--rounds=1000" ∷ codes "--nodes=16" ∷ []) ≡ Some (16, 1000)
-unfolding clap_on_literals race_numbers
-at_longest_numbers name = refl
-
-pub at_too_many_nodes : (name : Text)
-    → faults_at (name ∷ codes "race" ∷ codes "--nodes" ∷ codes "17" ∷ codes "--rounds" ∷ codes "1" ∷ [])
-    ≡ ValueValidation ∷ []
-unfolding clap_on_literals faults_at
-at_too_many_nodes name = refl
-
-pub at_too_few_nodes : (name : Text)
-    → faults_at (name ∷ codes "race" ∷ codes "--nodes" ∷ codes "1" ∷ codes "--rounds" ∷ codes "1" ∷ [])
-    ≡ ValueValidation ∷ []
-unfolding clap_on_literals faults_at
-at_too_few_nodes name = refl
-
-pub at_negative_nodes : (name : Text)
-    → faults_at (name ∷ codes "race" ∷ codes "--nodes=-4" ∷ codes "--rounds=1" ∷ []) ≡ ValueValidation ∷ []
-unfolding clap_on_literals faults_at
-at_negative_nodes name = refl
-
-pub at_no_rounds : (name : Text)
-    → faults_at (name ∷ codes "race" ∷ codes "--nodes" ∷ codes "2" ∷ []) ≡ MissingRequiredArgument ∷ []
-unfolding clap_on_literals faults_at
-at_no_rounds name = refl
-
-pub at_help_of_race : (name : Text) → faults_at (name ∷ codes "race" ∷ codes "--help" ∷ []) ≡ DisplayHelp ∷ []
-unfolding clap_on_literals faults_at
-at_help_of_race name = refl
-
 -- the words of a run are at no fault
 pub run_faultless : (words : List Text) → IsRun words → faults_at words ≡ []
 run_faultless [] h = let l : 0 ≡ 1 = ap length h in absurd (omega (arith, l))
-run_faultless (name ∷ rest) h = ap (λ (ws : List Text). faults_at (name ∷ ws)) h ∙ at_run name
+run_faultless (name ∷ rest) h = ap (λ (ws : List Text). faults_at (name ∷ ws)) h ∙ (are_asked_for name).run
 
 program_is_free : (forms : Words) → is_simple_and_free (program_at forms) ≡ true
 unfolding clap_on_literals

@@ -1,5 +1,6 @@
 mod AnswerLemmas
 mod ArgumentLemmas
+mod AskedLemmas
 mod BuilderLemmas
 mod CheckingLemmas
 mod CommandLemmas
@@ -8,5 +9,4 @@ mod FlushLemmas
 mod NumberLemmas
 mod OptionLemmas
 mod PlaceLemmas
-mod RowLemmas
 mod TryingLemmas

@@ -1,5 +1,5 @@
 //! The arguments of the program.
-ghost use Rattle.std.specs.Prelude.{◌≡◌, ◌∷◌, ◌↔◌, [], map, List, ℕ, IsTrue, IfOk, IfErr, MatchResult, codes};
+ghost use Rattle.std.specs.Prelude.{◌≡◌, ◌↔◌, map, ℕ, IsTrue, IfOk, codes};
 ghost use Rattle.std.specs.Prelude.{Ok, Some, None, true, false, ◌≤◌, IfSome, pos};
 ghost use Rattle.clap.specs.Words.{App, Rule, Text, app_of, found_of, kind_of, new_app, rows_of, rule_of};
 ghost use Rattle.clap.specs.Words.{subcommand_rows_of, with_rule, with_subcommand};
@@ -8,16 +8,16 @@ ghost use Rattle.clap.specs.declared.builder.value_parser.ValueParser.TheVariant
 ghost use Rattle.hg_race.specs.Limits.{least_nodes, most_nodes, most_rounds};
 ghost use Rattle.hgfleet.specs.declared.arguments.ArgumentFault.TheVariants.{NoMemory};
 ghost use Rattle.hg_show.specs.declared.form.Form.TheVariants.{Store, Message};
-ghost use Rattle.hgfleet.specs.Arguments.{ArgumentsAnswer, IsRun, IsMistake, MeetsWanted, ParseAnswer, faults_at};
+ghost use Rattle.hgfleet.specs.Arguments.{ArgumentsAnswer, IsRun, IsMistake, MeetsWanted, ParseAnswer};
 ghost use Rattle.hgfleet.specs.Arguments.{program_at, program_alone};
 ghost use Rattle.hgfleet.specs.Arguments.{run, race, show_at, write_at, form_rule};
-ghost use Rattle.hgfleet.specs.Arguments.{IsRunWithNotesOf, notes_given, run_notes};
-ghost use Rattle.hgfleet.specs.Arguments.{IsRaceOf, number_given, numbers_given, race_numbers};
-ghost use Rattle.hgfleet.specs.Arguments.{log_options, number_rule, wanted_number};
+ghost use Rattle.hgfleet.specs.Arguments.{IsRunWithNotesOf, notes_given};
+ghost use Rattle.hgfleet.specs.Arguments.{IsRaceOf, number_given, numbers_given};
+ghost use Rattle.hgfleet.specs.Arguments.{number_rule, wanted_number};
 ghost use Rattle.hgfleet.specs.Arguments.{texts_of};
-ghost use Rattle.hgfleet.specs.Arguments.{IsShowOf, form_given, form_named, shown_form};
-ghost use Rattle.hgfleet.specs.Arguments.{IsWriteOf, write_given, written_form};
-ghost use Rattle.hgfleet.specs.Arguments.{fate_labels, why_names};
+ghost use Rattle.hgfleet.specs.Arguments.{IsShowOf, form_given, form_named};
+ghost use Rattle.hgfleet.specs.Arguments.{IsWriteOf, write_given};
+ghost use Rattle.hgfleet.specs.Asked.{AreAskedFor};
 ghost use Rattle.hgfleet.specs.Builders.{IsArgument, IsCommand, IsProgram, value_rule};
 ghost use Rattle.hgfleet.specs.TryArguments.{flag_given, flag_rule, words_given};
 ghost use Rattle.hgfleet.specs.Arguments.{argument_fault_number, argument_fault_status, argument_fault_text};
@@ -704,89 +704,5 @@ fn form_argument<'a>(alloc: Global, forms: &'a [&'a str]) -> Arg<'a>
 
 /// The words by which help and the version are asked for, and some that ask for nothing.
 pub fn what_words_ask_for()
-    ensures help { (name : Text) → faults_at (name ∷ codes "--help" ∷ []) ≡ ErrorKind.DisplayHelp ∷ [] }
-    ensures short_help { (name : Text) → faults_at (name ∷ codes "-h" ∷ []) ≡ ErrorKind.DisplayHelp ∷ [] }
-    ensures help_of_run { (name : Text)
-        → faults_at (name ∷ codes "run" ∷ codes "--help" ∷ []) ≡ ErrorKind.DisplayHelp ∷ [] }
-    ensures version { (name : Text) → faults_at (name ∷ codes "--version" ∷ []) ≡ ErrorKind.DisplayVersion ∷ [] }
-    ensures nothing { (name : Text) → faults_at (name ∷ []) ≡ ErrorKind.MissingSubcommand ∷ [] }
-    ensures run { (name : Text) → faults_at (name ∷ codes "run" ∷ []) ≡ [] }
-    ensures more { (name : Text) → faults_at (name ∷ codes "run" ∷ codes "x" ∷ []) ≡ ErrorKind.UnknownArgument ∷ [] }
-    ensures run_numbers { (name : Text) → race_numbers (name ∷ codes "run" ∷ []) ≡ None }
-    ensures no_notes { (name : Text) → run_notes (name ∷ codes "run" ∷ []) ≡ None }
-    ensures explain { (name : Text) → faults_at (name ∷ codes "run" ∷ codes "--explain" ∷ []) ≡ [] }
-    ensures explained { (name : Text)
-        → run_notes (name ∷ codes "run" ∷ codes "--explain" ∷ []) ≡ Some (true, false, false) }
-    ensures traced { (name : Text) → run_notes (name ∷ codes "run" ∷ codes "--trace" ∷ [])
-        ≡ Some (false, true, false) }
-    ensures strict { (name : Text) → run_notes (name ∷ codes "run" ∷ codes "--strict" ∷ [])
-        ≡ Some (false, false, true) }
-    ensures both_notes { (name : Text)
-        → run_notes (name ∷ codes "run" ∷ codes "--trace" ∷ codes "--explain" ∷ []) ≡ Some (true, true, false) }
-    ensures explain_more { (name : Text)
-        → faults_at (name ∷ codes "run" ∷ codes "--explain" ∷ codes "x" ∷ []) ≡ ErrorKind.UnknownArgument ∷ [] }
-    ensures race { (name : Text) → faults_at (name ∷ codes "race" ∷ codes "--nodes" ∷ codes "4" ∷ codes "--rounds"
-        ∷ codes "3" ∷ []) ≡ [] }
-    ensures race_numbers { (name : Text) → race_numbers (name ∷ codes "race" ∷ codes "--nodes" ∷ codes "4"
-        ∷ codes "--rounds" ∷ codes "3" ∷ []) ≡ Some (4, 3) }
-    ensures longest_race { (name : Text) → faults_at (name ∷ codes "race" ∷ codes "--rounds=1000"
-        ∷ codes "--nodes=16" ∷ []) ≡ [] }
-    ensures longest_numbers { (name : Text) → race_numbers (name ∷ codes "race" ∷ codes "--rounds=1000"
-        ∷ codes "--nodes=16" ∷ []) ≡ Some (16, 1000) }
-    ensures too_many_nodes { (name : Text) → faults_at (name ∷ codes "race" ∷ codes "--nodes" ∷ codes "17"
-        ∷ codes "--rounds" ∷ codes "1" ∷ []) ≡ ErrorKind.ValueValidation ∷ [] }
-    ensures too_few_nodes { (name : Text) → faults_at (name ∷ codes "race" ∷ codes "--nodes" ∷ codes "1"
-        ∷ codes "--rounds" ∷ codes "1" ∷ []) ≡ ErrorKind.ValueValidation ∷ [] }
-    ensures negative_nodes { (name : Text) → faults_at (name ∷ codes "race" ∷ codes "--nodes=-4"
-        ∷ codes "--rounds=1" ∷ []) ≡ ErrorKind.ValueValidation ∷ [] }
-    ensures no_rounds { (name : Text) → faults_at (name ∷ codes "race" ∷ codes "--nodes" ∷ codes "2" ∷ [])
-        ≡ ErrorKind.MissingRequiredArgument ∷ [] }
-    ensures help_of_race { (name : Text)
-        → faults_at (name ∷ codes "race" ∷ codes "--help" ∷ []) ≡ ErrorKind.DisplayHelp ∷ [] }
-    ensures log { (name : Text) → faults_at (name ∷ codes "log" ∷ []) ≡ [] }
-    ensures log_options { (name : Text) → log_options (name ∷ codes "log" ∷ []) ≡ Some ([], false, Picture.Text, None) }
-    ensures log_of_two { (name : Text) → faults_at (name ∷ codes "log" ∷ codes "--hidden" ∷ codes "A" ∷ codes "B" ∷ [])
-        ≡ [] }
-    ensures options_of_two { (name : Text) → log_options (name ∷ codes "log" ∷ codes "--hidden" ∷ codes "A"
-        ∷ codes "B" ∷ []) ≡ Some (codes "A" ∷ codes "B" ∷ [], true, Picture.Text, None) }
-    ensures graph { (name : Text) → log_options (name ∷ codes "log" ∷ codes "A" ∷ codes "--dot" ∷ [])
-        ≡ Some (codes "A" ∷ [], false, Picture.Graph, None) }
-    ensures json { (name : Text)
-        → log_options (name ∷ codes "log" ∷ codes "--json" ∷ []) ≡ Some ([], false, Picture.Json, None) }
-    ensures line { (name : Text) → faults_at (name ∷ codes "log" ∷ codes "--at" ∷ codes "12" ∷ []) ≡ [] }
-    ensures line_given { (name : Text) → log_options (name ∷ codes "log" ∷ codes "--at" ∷ codes "12" ∷ [])
-        ≡ Some ([], false, Picture.Text, Some 12) }
-    ensures no_line { (name : Text)
-        → faults_at (name ∷ codes "log" ∷ codes "--at" ∷ codes "0" ∷ []) ≡ ErrorKind.ValueValidation ∷ [] }
-    ensures two_pictures { (name : Text)
-        → faults_at (name ∷ codes "log" ∷ codes "--json" ∷ codes "--dot" ∷ []) ≡ [] }
-    ensures no_picture { (name : Text)
-        → log_options (name ∷ codes "log" ∷ codes "--json" ∷ codes "--dot" ∷ []) ≡ None }
-    ensures help_of_log { (name : Text)
-        → faults_at (name ∷ codes "log" ∷ codes "--help" ∷ []) ≡ ErrorKind.DisplayHelp ∷ [] }
-    ensures show_store { (name : Text) → faults_at (name ∷ codes "show" ∷ codes "store" ∷ []) ≡ [] }
-    ensures shown_store { (name : Text) → shown_form (name ∷ codes "show" ∷ codes "store" ∷ []) ≡ Some Store }
-    ensures show_nothing { (name : Text)
-        → faults_at (name ∷ codes "show" ∷ codes "nothing" ∷ []) ≡ ErrorKind.InvalidValue ∷ [] }
-    ensures show_alone { (name : Text)
-        → faults_at (name ∷ codes "show" ∷ []) ≡ ErrorKind.MissingRequiredArgument ∷ [] }
-    ensures help_of_show { (name : Text)
-        → faults_at (name ∷ codes "show" ∷ codes "--help" ∷ []) ≡ ErrorKind.DisplayHelp ∷ [] }
-    ensures write_store { (name : Text)
-        → faults_at (name ∷ codes "write" ∷ codes "store" ∷ codes "A" ∷ []) ≡ [] }
-    ensures written_store { (name : Text)
-        → written_form (name ∷ codes "write" ∷ codes "store" ∷ codes "A" ∷ []) ≡ Some (Store, codes "A") }
-    ensures written_message { (name : Text)
-        → written_form (name ∷ codes "write" ∷ codes "message" ∷ codes "m" ∷ []) ≡ Some (Message, codes "m") }
-    ensures write_no_name { (name : Text)
-        → faults_at (name ∷ codes "write" ∷ codes "store" ∷ []) ≡ ErrorKind.MissingRequiredArgument ∷ [] }
-    ensures help_of_write { (name : Text)
-        → faults_at (name ∷ codes "write" ∷ codes "--help" ∷ []) ≡ ErrorKind.DisplayHelp ∷ [] }
-    ensures why { (name : Text) → faults_at (name ∷ codes "why" ∷ codes "A" ∷ []) ≡ [] }
-    ensures why_names { (name : Text) → why_names (name ∷ codes "why" ∷ codes "A" ∷ []) ≡ Some (codes "A" ∷ []) }
-    ensures fate { (name : Text) → faults_at (name ∷ codes "fate" ∷ codes "b" ∷ codes "a" ∷ []) ≡ [] }
-    ensures fate_labels { (name : Text) → fate_labels (name ∷ codes "fate" ∷ codes "b" ∷ codes "a" ∷ [])
-        ≡ Some (codes "b" ∷ codes "a" ∷ []) }
-    ensures fate_of_none { (name : Text)
-        → faults_at (name ∷ codes "fate" ∷ []) ≡ ErrorKind.MissingRequiredArgument ∷ [] }
+    ensures { (name : Text) → AreAskedFor name }
 {}
