@@ -124,11 +124,11 @@ pub record GainsExtinct (before : InstabilitySets) (P : Node → Type 0) (after 
 abbrev pub IsTurningOf : InstabilitySets → Turning → Type 0
 IsTurningOf sets Nothing = Unit {0}
 IsTurningOf sets (NewlyExtinct node) = Unit {0}
-IsTurningOf sets (Each turns) = AreTurns sets turns
+IsTurningOf sets (Each turns) = AreTurns sets turns.value
 
 -- what it leaves of the sets is what those of g are to have
 abbrev pub TurnsTo : Content → InstabilitySets → Turning → Type 0
 TurnsTo g sets Nothing = AreInstabilities g sets
 TurnsTo g sets (NewlyExtinct node) = (after : InstabilitySets) → GainsExtinct sets (λ n. n ≡ node) after
     → AreInstabilities g after
-TurnsTo g sets (Each turns) = LeadTo g sets turns
+TurnsTo g sets (Each turns) = LeadTo g sets turns.value

@@ -147,7 +147,7 @@ impl Instabilities {
             Some(turning) => Ok(turning),
             None => {
                 let turns = self.asked(replica, change)?;
-                Ok(Turning::Each(turns))
+                Ok(Turning::Each(Box::new(self.alloc, turns)?))
             }
         }
     }
