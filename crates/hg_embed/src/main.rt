@@ -5,7 +5,7 @@
 #![tactic(auto)]
 
 use hg_changeset::{Entry, Node};
-use hg_fleet::{Fleet, Scope};
+use hg_fleet::Fleet;
 use hg_join::NoMemory;
 use hg_replica::IdKeys;
 use hg_rewrite::Op;
@@ -127,7 +127,7 @@ fn amend(
 
 // A peer decides an operation and absorbs its part. The new changeset's id.
 fn operate(fleet: &mut Fleet, at: usize, op: Op) -> Result<Node, Stop> {
-    match fleet.local(at, op) {
+    match fleet.local(at, &op) {
         Answer::Accepted(change) => change.added.first().copied().ok_or(Stop::Refused),
         _ => Err(Stop::Refused),
     }
@@ -135,7 +135,7 @@ fn operate(fleet: &mut Fleet, at: usize, op: Op) -> Result<Node, Stop> {
 
 // One peer takes in what the other serves and it lacks.
 fn pull(fleet: &mut Fleet, taker: usize, giver: usize) -> Result<(), Stop> {
-    match fleet.pull(taker, giver, Scope::Served)? {
+    match fleet.pull(taker, giver)? {
         Some(pulled) => match pulled.taken {
             Some(Answer::Accepted(_)) => Ok(()),
             _ => Err(Stop::Refused),

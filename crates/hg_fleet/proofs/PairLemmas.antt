@@ -12,7 +12,6 @@ use Rattle.std.proofs.lemmas.Map.Lookups.{exact_pairs, exact_unsigned}
 use Rattle.std.proofs.lemmas.Option.{same_Some}
 use Rattle.hg_changeset.specs.Contents.{Contents}
 use Rattle.hg_phases.specs.State.{changesets}
-use Rattle.hg_history.specs.declared.fault.Fault.{Fault}
 use Rattle.hg_replica.specs.State.{ReplicaState}
 use Rattle.hg_replica.specs.Least.{PartValue}
 use Rattle.hg_view.specs.Kept.{KeptValue}
@@ -136,12 +135,12 @@ true_noted w before after pair ours theirs were at_ours at_theirs (inr (x, is, u
       | inr e ↦ were q asker other asks_at asked_at y (sym (up.2 q e) ∙ got)
     ]
 
--- whatever an event is answered
-pub true_run : {R E : Type 0} (told : R → PeerAnswer) (old : Snapshot KeptValue) (event : PeerEvent)
-    (new : Snapshot KeptValue) (pairs : Pairs) (r : Result R E)
-    → IfOk r (λ answer. (part : Option PartValue) × Happens peer_state peer_words old event (told answer) part new)
+-- whatever an event is answered, if it is
+pub true_run : {E : Type 0} (old : Snapshot KeptValue) (event : PeerEvent) (new : Snapshot KeptValue) (pairs : Pairs)
+    (r : Result PeerAnswer E)
+    → IfOk r (λ answer. (part : Option PartValue) × Happens peer_state peer_words old event answer part new)
     → OnErr r (new ≡ old) → AreTruePairs old pairs → AreTruePairs new pairs
-true_run told old event new pairs (Ok answer) happens same were =
-    true_after old event (told answer) happens.0 new pairs happens.1 were
-true_run told old event new pairs (Err e) happens same were =
+true_run old event new pairs (Ok answer) happens same were =
+    true_after old event answer happens.0 new pairs happens.1 were
+true_run old event new pairs (Err e) happens same were =
     subst (λ (w : Snapshot KeptValue). AreTruePairs w pairs) (sym same) were

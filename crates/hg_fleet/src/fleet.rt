@@ -3,8 +3,9 @@ ghost use Rattle.std.specs.Prelude.{◌≡◌, ◌<◌, ◌⊎◌, [], None, Opt
 ghost use Rattle.std.specs.Prelude.{slice_get};
 ghost use Rattle.std.specs.Option.{option_copied};
 ghost use Rattle.hg_replica.specs.Least.{PartValue};
-ghost use Rattle.hg_world.specs.declared.event.Event.TheVariants.{Local};
-ghost use Rattle.hg_world.specs.Runs.{AllEmpty, AllUnmarked, AllValid, Happens, IsOffer, snapshot};
+ghost use Rattle.hg_message.specs.declared.scope.Scope.TheVariants.{Served, Whole};
+ghost use Rattle.hg_world.specs.declared.event.Event.{Event};
+ghost use Rattle.hg_world.specs.Runs.{AllEmpty, AllUnmarked, AllValid, Happens, snapshot};
 ghost use Rattle.hg_peer.specs.Words.{peer_state, peer_words};
 ghost use Rattle.hg_discovery.specs.Between.{AreHeadsInCommon};
 ghost use Rattle.hg_discovery.specs.Compared.{WereCompared};
@@ -12,15 +13,15 @@ ghost use Rattle.hg_fleet.specs.Pairs.{IsNoted, IsTrueOf};
 ghost use Rattle.hg_fleet.specs.Pulls.{AreLeftOutAt, IsOneAbsent, IsPulled, TakesOffered};
 ghost use Rattle.hg_view.specs.Kept.{KeptValue};
 
-use crate::pulled::{PeerAnswer, PeerEvent, Pulled};
+use crate::pulled::{PeerAnswer, Pulled};
 use hg_changeset::Node;
 use hg_discovery::{Compared, heads_in_common_compared};
 use hg_join::NoMemory;
 use hg_node_set::IdKeys;
-use hg_peer::{Ask, Peer, Scope, world_with_keys};
+use hg_peer::{Ask, Mark, Peer, Scope, world_with_keys};
 use hg_rewrite::Op;
 use hg_view::Kept;
-use hg_world::{Answer, Event, World};
+use hg_world::{Answer, World};
 use std::alloc::Global;
 use std::collections::BTreeMap;
 use std::marker::Model;
@@ -107,40 +108,72 @@ impl Fleet {
         self.world.message(number)
     }
 
-    /// Does an event and gives its answer, as [`World::run_one`] does. What is noted of two peers stays true, since
-    /// replicas only grow.
-    ///
-    /// Memory runs out here only before an offer, and nothing changed then; within an event it is that event's refusal.
+    /// The peer at a place, counted from 0, decides an operation, and takes its part in. It gives the answer to that
+    /// event of the world, before which no memory runs out.
     #[inline(always)]
-    pub fn run_one(&mut self, event: &PeerEvent) -> Result<PeerAnswer, NoMemory>
-        ensures happens { IfOk result (λ answer. (part : Option PartValue)
-            × Happens peer_state peer_words self.old event.now answer part self.new) }
-        ensures unchanged { OnErr result (self.new ≡ self.old) }
-        ensures memory { OnErr result (IsOffer event.now) }
-    {
-        self.world.run_one(event)
-    }
-
-    /// The peer at a place decides an operation, and takes its part in. It gives the answer to that event of the world,
-    /// before which no memory runs out.
-    pub fn local(&mut self, at: usize, op: Op) -> PeerAnswer
+    pub fn local(&mut self, at: usize, op: &Op) -> PeerAnswer
         ensures { (part : Option PartValue)
-            × Happens peer_state peer_words self.old (Local at op) result part self.new }
+            × Happens peer_state peer_words self.old (Event.Local at op.now) result part self.new }
     {
-        match self.run_one(&Event::Local { at, op }) {
-            Ok(answer) => answer,
-            Err(_) => unreachable!(),
-        }
+        self.world.local(at, op)
     }
 
-    /// The taker takes in what the giver offers of a scope: of what it serves, what stands above the heads that both
-    /// have in common; of the whole, everything. It gives what the offer and the taking were answered, or nothing where
-    /// one of the two is absent.
+    /// What the peer at a place offers becomes the last message, for any peer that [`take`](Fleet::take)s it later,
+    /// again or never. It gives the answer to that event of the world.
+    ///
+    /// Memory runs out here only where there is such a peer, and nothing changed then; within the event it is that
+    /// event's refusal.
+    pub fn offer(&mut self, at: usize, ask: &Ask) -> Result<PeerAnswer, NoMemory>
+        ensures happens { IfOk result (λ answer. (part : Option PartValue)
+            × Happens peer_state peer_words self.old (Event.Offer at ask.now) answer part self.new) }
+        ensures unchanged { OnErr result (self.new ≡ self.old) }
+        ensures memory { OnErr result (at < length self.old.nodes) }
+    {
+        self.world.offer(at, ask)
+    }
+
+    /// The peer at a place takes the message with this number, counted from 0, in. It gives the answer to that event of
+    /// the world, before which no memory runs out.
+    pub fn take(&mut self, at: usize, message: usize) -> PeerAnswer
+        ensures { (part : Option PartValue)
+            × Happens peer_state peer_words self.old (Event.Take at message) result part self.new }
+    {
+        self.world.take(at, message)
+    }
+
+    /// The peer at a place pins a changeset, or pins it no more. It gives the answer to that event of the world, before
+    /// which no memory runs out.
+    pub fn mark(&mut self, at: usize, mark: &Mark) -> PeerAnswer
+        ensures { (part : Option PartValue)
+            × Happens peer_state peer_words self.old (Event.Mark at mark.now) result part self.new }
+    {
+        self.world.mark(at, mark)
+    }
+
+    /// The taker takes in what the giver serves above the heads that both have in common. It gives what the offer and
+    /// the taking were answered, or nothing where one of the two is absent.
     ///
     /// Both are events of one run of the world. Memory runs out here only before the first of them, and nothing changed
     /// then; within an event it is that event's refusal. So a refused offer changes nothing, and a message whose taking
     /// is refused stays among the messages.
-    pub fn pull(
+    pub fn pull(&mut self, taker: usize, giver: usize) -> Result<Option<Pulled>, NoMemory>
+        ensures pulled { IfOk result (λ pulled. IsPulled self.old taker giver Served pulled self.new) }
+        ensures unchanged { OnErr result (self.new ≡ self.old) }
+    {
+        self.exchange(taker, giver, Scope::Served)
+    }
+
+    /// The taker takes in all that the giver holds but what is secret, also what is hidden and what it holds already.
+    /// Answers and want of memory are those of [`pull`](Fleet::pull).
+    pub fn share(&mut self, taker: usize, giver: usize) -> Result<Option<Pulled>, NoMemory>
+        ensures pulled { IfOk result (λ pulled. IsPulled self.old taker giver Whole pulled self.new) }
+        ensures unchanged { OnErr result (self.new ≡ self.old) }
+    {
+        self.exchange(taker, giver, Scope::Whole)
+    }
+
+    // The taker takes in what the giver offers of a scope.
+    fn exchange(
         &mut self,
         taker: usize,
         giver: usize,
@@ -152,11 +185,7 @@ impl Fleet {
         let Some(common) = self.left_out(taker, giver, scope)? else {
             return Ok(None);
         };
-        let offer = Event::Offer {
-            at: giver,
-            ask: Ask { common, scope },
-        };
-        let offered = self.run_one(&offer)?;
+        let offered = self.offer(giver, &Ask { common, scope })?;
         let taken = self.take_offered(taker, &offered);
         Ok(Some(Pulled { offered, taken }))
     }
@@ -193,16 +222,7 @@ impl Fleet {
         ensures { TakesOffered self.old taker offered.now result self.new }
     {
         match offered {
-            Answer::Offered(message) => {
-                let take = Event::Take {
-                    at: taker,
-                    message: *message,
-                };
-                match self.run_one(&take) {
-                    Ok(answer) => Some(answer),
-                    Err(_) => unreachable!(),
-                }
-            }
+            Answer::Offered(message) => Some(self.take(taker, *message)),
             Answer::Accepted(_) => None,
             Answer::Marked => None,
             Answer::Refused(_) => None,

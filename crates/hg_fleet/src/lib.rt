@@ -3,9 +3,10 @@
 //! A [`Fleet`] is a world of peers ([`hg_world`], [`hg_peer`]) that also notes how far each two of them were compared.
 //! So one can ask the other for exactly what it lacks: [`Fleet::pull`] finds the heads of what both have in common
 //! ([`hg_discovery`]), lets the giver offer what it serves above them, and lets the taker take that in. Two peers that
-//! pull often compare each changeset once. A pull of the whole scope, a share, offers everything but what is secret.
-//! An operation of a peer's own is [`Fleet::local`]. All else is [`Fleet::run_one`] of an event ([`hg_world`]):
-//! `Event::Offer` and `Event::Take` of a message that comes late, again or never, and `Event::Mark` of a pin.
+//! pull often compare each changeset once. [`Fleet::share`] offers everything but what is secret.
+//!
+//! [`Fleet::local`] is an operation of a peer's own, and [`Fleet::mark`] a pin. With [`Fleet::offer`] and
+//! [`Fleet::take`] a message may come late, again or never.
 //!
 //! # What holds
 //!
@@ -18,16 +19,16 @@
 //! # Example
 //!
 //! ```text
-//! fn commit_and_pull(alloc: Global, keys: IdKeys, op: Op) -> Result<Option<Pulled>, NoMemory> {
+//! fn commit_and_pull(alloc: Global, keys: IdKeys, op: &Op) -> Result<Option<Pulled>, NoMemory> {
 //!     // Two empty peers, without pins, and no message.
 //!     let mut fleet = Fleet::new(alloc, keys, 2)?;
 //!     // What a peer refuses changes nothing, and the answer says why.
 //!     fleet.local(0, op);
 //!     // The peer at place 1 takes in what the one at place 0 serves and it lacks: the offer's answer, and that of the
 //!     // taking. It would be `None` if there were no peer at one of the places.
-//!     fleet.pull(1, 0, Scope::Served)?;
+//!     fleet.pull(1, 0)?;
 //!     // Both have in common now all that is served, so the next message says nothing new.
-//!     fleet.pull(1, 0, Scope::Served)
+//!     fleet.pull(1, 0)
 //! }
 //! ```
 #![tactic(auto)]
@@ -36,5 +37,5 @@ mod fleet;
 mod pulled;
 
 pub use fleet::Fleet;
-pub use hg_peer::Scope;
-pub use pulled::{PeerAnswer, PeerEvent, Pulled};
+pub use hg_peer::{Ask, Mark, Scope};
+pub use pulled::{PeerAnswer, Pulled};

@@ -1,14 +1,10 @@
-//! What may be asked of a fleet, and what it answers.
+//! What a fleet answers.
 use hg_history::Fault;
-use hg_peer::{Ask, Mark, PeerRefusal};
+use hg_peer::PeerRefusal;
 use hg_replica::Change;
-use hg_rewrite::Op;
-use hg_world::{Answer, Event};
+use hg_world::Answer;
 
-/// What may be asked of a world of peers.
-pub type PeerEvent = Event<Op, Ask, Mark>;
-
-/// What it answers.
+/// What a world of peers answers to an event.
 pub type PeerAnswer = Answer<Change, PeerRefusal, Fault>;
 
 /// What became of a pull.

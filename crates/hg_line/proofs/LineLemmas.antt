@@ -1,5 +1,5 @@
 -- Single events, single commands, and single lines.
-use Rattle.std.proofs.Common.{◌≡◌, ◌↔◌, ℕ, List, [], ◌∷◌, ◌++◌, Option, Some, None, Bool, true, false, IsTrue}
+use Rattle.std.proofs.Common.{◌≡◌, ◌↔◌, ℕ, List, [], ◌∷◌, ◌++◌, Option, Some, Bool, true, false, IsTrue}
 use Rattle.std.proofs.Common.{is_some, ◌≢◌, ◌≤◌, inl, inr, length, map}
 use Rattle.std.proofs.Common.{Result, Ok, Err, OnOk, IfOk}
 use Rattle.std.proofs.Common.{refl, sym, ap, subst, ◌∙◌}
@@ -8,12 +8,8 @@ use Rattle.std.proofs.lemmas.List.{append-nil}
 use Rattle.std.proofs.lemmas.Result.{on_ok_weaker}
 use Rattle.hg_replica.specs.State.{IsSameState}
 use Rattle.hg_replica.specs.Least.{PartValue}
-use Rattle.hg_history.specs.declared.fault.Fault.{Fault}
 use Rattle.hg_view.specs.Kept.{KeptValue}
 use Rattle.hg_world.specs.Runs.{Snapshot, Happens}
-use Rattle.hg_world.specs.declared.event.EventRefusal.{EventRefusal}
-use Rattle.hg_world.specs.declared.event.Answer.TheVariants.{Refused}
-use Rattle.hg_peer.specs.declared.refusal.PeerRefusal.{PeerRefusal}
 use Rattle.hg_peer.specs.Words.{peer_state, peer_words}
 use Rattle.hg_message.specs.declared.scope.Scope.{Scope}
 use Rattle.hg_fleet.specs.Pulls.{Pulls, asking, taken}
@@ -45,17 +41,6 @@ use Rattle.hg_line.specs.Words.{words_of}
 -- the event alone, what it was answered, and what it brought
 abbrev pub one : PeerEvent → PeerAnswer → Option PartValue → Trace
 one event answer part = record { events = event ∷ []; answers = answer ∷ []; parts = part ∷ [] }
-
--- what is refused changes nothing
-pub refused_stays : (old : Snapshot KeptValue) (event : PeerEvent) (answer : PeerAnswer)
-    (refusal : EventRefusal PeerRefusal Fault) (new : Snapshot KeptValue) → answer ≡ Refused refusal
-    → (part : Option PartValue) × Happens peer_state peer_words old event answer part new → new ≡ old
-refused_stays old event answer refusal new e (part, h) =
-    by part (subst (λ a. Happens peer_state peer_words old event a part new) e h)
-  where
-    by : (part : Option PartValue) → Happens peer_state peer_words old event (Refused refusal) part new → new ≡ old
-    by None h = h.1
-    by (Some part) h = absurd h
 
 -- an event, and then what came after it without an event
 pub ran_after : (old mid new : Snapshot KeptValue) (event : PeerEvent) (answer : PeerAnswer)

@@ -3,9 +3,7 @@ ghost use Rattle.std.specs.Prelude.{◌≡◌, IfOk};
 ghost use Rattle.hg_line.specs.Entries.{entry_of};
 
 use hg_changeset::Entry;
-use hg_fleet::PeerEvent;
 use hg_rewrite::Op;
-use hg_world::Event;
 use std::alloc::{AllocError, Global};
 use std::collections::BTreeMap;
 use std::mem;
@@ -59,18 +57,15 @@ impl EntryBuffers {
         })
     }
 
-    /// Takes back the room of the entry of an event that was run, if it has one entry.
+    /// Takes back the room of the entry of an operation that is done with, if it has one entry.
     #[inline(always)]
-    pub fn keep(&mut self, event: &mut PeerEvent) {
-        match event {
-            Event::Local { at: _, op } => match op {
-                Op::Commit { entry, .. }
-                | Op::Amend { entry, .. }
-                | Op::Fold { entry, .. }
-                | Op::Relocate { entry, .. } => self.swap(entry),
-                Op::Split { .. } | Op::Prune { .. } | Op::Advance { .. } => {}
-            },
-            Event::Offer { .. } | Event::Take { .. } | Event::Mark { .. } => {}
+    pub fn keep(&mut self, op: &mut Op) {
+        match op {
+            Op::Commit { entry, .. }
+            | Op::Amend { entry, .. }
+            | Op::Fold { entry, .. }
+            | Op::Relocate { entry, .. } => self.swap(entry),
+            Op::Split { .. } | Op::Prune { .. } | Op::Advance { .. } => {}
         }
     }
 

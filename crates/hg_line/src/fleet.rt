@@ -8,6 +8,7 @@ ghost use Rattle.hg_line.specs.Commands.{texts};
 ghost use Rattle.hg_line.specs.Endings.{AreLabelsFree, IsDecided, IsFaultOf, IsLeftBy, IsNodeFault, IsTakenFault};
 ghost use Rattle.hg_line.specs.Endings.{StaysAtLine, StaysAtName};
 ghost use Rattle.hg_names.specs.Labels.{labelled};
+ghost use Rattle.hg_fleet.specs.Pulls.{IsPulled};
 ghost use Rattle.hg_line.specs.Outputs.{Grows, Printed};
 ghost use Rattle.hg_line.specs.Printing.{agree_line};
 ghost use Rattle.hg_line.specs.Lines.{AreLabelled, IsMessageNamed, IsNewFleet, bound_to, each_may_name, ids};
@@ -15,10 +16,10 @@ ghost use Rattle.hg_line.specs.Lines.{may_name, message_named, node_named, node_
 ghost use Rattle.hg_line.specs.Lines.{places};
 ghost use Rattle.hg_line.specs.Outcomes.{IsAnswered, IsAskedOf, IsDone, IsEndedBy};
 
+use crate::answer::{check_printed, check_pulled};
 use crate::command::Command;
 use crate::command_fault::CommandFault;
 use crate::entry_buffers::EntryBuffers;
-use crate::event::{check_pulled, run_event};
 use crate::fault::{LineFault, RunFault};
 use crate::line_outcome::{LineOutcome, print_refusals};
 use crate::marking::Marking;
@@ -26,7 +27,7 @@ use crate::operation::{Names, Operation};
 use crate::output::{LineName, print_line};
 use crate::report::print_report;
 use hg_changeset::{Changeset, Node};
-use hg_fleet::PeerAnswer;
+use hg_fleet::{PeerAnswer, Pulled};
 use hg_join::NoMemory;
 use hg_names::{Labels, are_distinct, bind, bound};
 use hg_node_set::IdKeys;
@@ -34,7 +35,7 @@ use hg_peer::{Ask, Scope};
 use hg_replica::Part;
 use hg_rewrite::{Op, decide_kept};
 use hg_view::Kept;
-use hg_world::{Answer, Event};
+use hg_world::Answer;
 use std::alloc::{AllocError, Global};
 use std::collections::BTreeMap;
 use std::io::Write;
@@ -255,13 +256,13 @@ impl Fleet {
             alloc: self.alloc,
             labels: &self.labels,
         };
-        let op = operation.resolve(&names, buffers)?;
+        let mut op = operation.resolve(&names, buffers)?;
         let labels = operation.new_labels();
         let kept = self.kept(place)?;
         self.check_labels(kept, &op, labels)?;
-        let mut event = Event::Local { at: place, op };
-        let answer = run_event(&mut self.world, &event)?;
-        buffers.keep(&mut event);
+        let answer = self.world.local(place, &op);
+        check_printed(&answer)?;
+        buffers.keep(&mut op);
         label(&mut self.labels, labels, &answer)?;
         Ok(LineOutcome::Event { at: place, answer })
     }
@@ -301,8 +302,8 @@ impl Fleet {
             labels: &self.labels,
         };
         let mark = marking.resolve(&names)?;
-        let event = Event::Mark { at: place, mark };
-        let answer = run_event(&mut self.world, &event)?;
+        let answer = self.world.mark(place, &mark);
+        check_printed(&answer)?;
         Ok(LineOutcome::Event { at: place, answer })
     }
 
@@ -329,11 +330,8 @@ impl Fleet {
         if bound(&self.messages, message).is_some() {
             return Err(CommandFault::Name(LineFault::NameTaken));
         }
-        let event = Event::Offer {
-            at: place,
-            ask: Ask { common, scope },
-        };
-        let answer = run_event(&mut self.world, &event)?;
+        let answer = self.world.offer(place, &Ask { common, scope })?;
+        check_printed(&answer)?;
         name_message(self.alloc, &mut self.messages, message, &answer)?;
         Ok(LineOutcome::Event { at: place, answer })
     }
@@ -348,8 +346,8 @@ impl Fleet {
             Some(message) => message,
             None => return Err(CommandFault::Name(LineFault::UnknownName)),
         };
-        let event = Event::Take { at, message };
-        let answer = run_event(&mut self.world, &event)?;
+        let answer = self.world.take(at, message);
+        check_printed(&answer)?;
         Ok(LineOutcome::Taken {
             at,
             message,
@@ -366,7 +364,7 @@ impl Fleet {
     {
         let giver = self.place(from)?;
         let taker = self.place(to)?;
-        match self.world.pull(taker, giver, scope)? {
+        match exchange(&mut self.world, taker, giver, scope)? {
             Some(pulled) => {
                 check_pulled(&pulled)?;
                 Ok(LineOutcome::Pulled { at: taker, pulled })
@@ -430,6 +428,22 @@ impl Fleet {
             Some(kept) => Ok(kept),
             None => Err(CommandFault::Name(LineFault::UnknownName)),
         }
+    }
+}
+
+// A pull of what is served, or a share of the whole.
+fn exchange(
+    world: &mut hg_fleet::Fleet,
+    taker: usize,
+    giver: usize,
+    scope: Scope,
+) -> Result<Option<Pulled>, NoMemory>
+    ensures pulled { IfOk result (λ pulled. IsPulled world.old taker giver scope pulled world.new) }
+    ensures unchanged { OnErr result (world.new ≡ world.old) }
+{
+    match scope {
+        Scope::Served => world.pull(taker, giver),
+        Scope::Whole => world.share(taker, giver),
     }
 }
 

@@ -20,12 +20,12 @@
 //! ```
 #![tactic(auto)]
 
+mod answer;
 mod blaming;
 mod command;
 mod command_fault;
 mod disagreement;
 mod entry_buffers;
-mod event;
 mod explaining;
 mod fault;
 mod fleet;

@@ -1,8 +1,10 @@
 -- Each node of a run is the least that covers what it accepted.
-use Rattle.std.proofs.Common.{◌≡◌, ℕ, ◌==◌, ◌<◌, Option, Some, None, List, [], ◌∷◌, length, sym, ap, subst, ◌∙◌, inl}
-use Rattle.std.proofs.Common.{inr}
+use Rattle.std.proofs.Common.{◌≡◌, ℕ, ◌==◌, ◌<◌, Option, Some, None, List, [], ◌∷◌, ◌++◌, length, take, drop, vec_len}
+use Rattle.std.proofs.Common.{sym, ap, subst, ◌∙◌, inl, inr}
 use Rattle.std.specs.Prelude.{slice_get, slice_set}
 use Rattle.std.specs.List.{AllByRecursion}
+use Rattle.std.specs.declared.vec.Vec.{Vec}
+use Rattle.std.specs.declared.alloc.Global.{Global}
 use Rattle.std.proofs.lemmas.Bool.{cond-true, cond-false}
 use Rattle.std.proofs.lemmas.Bool.Decides.{eqb_tells}
 use Rattle.std.proofs.lemmas.List.{length-set}
@@ -15,6 +17,7 @@ use Rattle.hg_world.specs.declared.event.Event.TheVariants.{Local, Offer, Take, 
 use Rattle.hg_world.specs.declared.event.Answer.{Answer}
 use Rattle.hg_world.specs.declared.event.Answer.TheVariants.{Accepted, Offered, Marked, Refused}
 use Rattle.hg_world.specs.Runs.{Snapshot, place_of, Happens, Runs, accepted_at, AllLeast, AllValid, AllEmpty}
+use Rattle.hg_world.proofs.Longer.{all_written}
 use Rattle.hg_world.proofs.Places.{some_at, one_at, get_set_same, get_set_other}
 use Rattle.hg_world.proofs.Marks.{mark_leaves_contents, mark_leaves_count}
 
@@ -83,6 +86,18 @@ module _ {S O A M R P C F : Type 0} (J : StateWords S P C F) (W : ActorWords S O
       (v place before.0 before.1)
   valid_after old mid event (Refused refusal) None v h = rw h.1 v
   valid_after old mid event (Refused refusal) (Some part) v h = absurd h
+
+  -- and so once the nodes are written back to their vector
+  pub valid_written : (nodes : Vec S Global) (now : List S) (messages : List (List ℕ)) (event : Event O A M)
+      (answer : Answer C R F) (part : Option P) →
+      AllValid J (record { nodes = nodes.items; messages = messages }) → length now ≡ vec_len nodes →
+      Happens J W (record { nodes = nodes.items; messages = messages }) event answer part
+      (record { nodes = now; messages = messages }) →
+      AllValid J (record { nodes = take (vec_len nodes) (now ++ drop (length now) nodes.items); messages = messages })
+  valid_written nodes now messages event answer part v len h =
+      rw (all_written (vec_len nodes) now (drop (length now) nodes.items) len) (valid_after
+      (record { nodes = nodes.items; messages = messages }) (record { nodes = now; messages = messages }) event answer
+      part v h)
 
   -- one event, and then the others
   pub least_after : (old mid new : Snapshot S) (event : Event O A M) (answer : Answer C R F) (part : Option P)

@@ -1,5 +1,5 @@
 //! What may be asked of a world, and what it answers.
-ghost use Rattle.std.specs.Prelude.{◌≡◌, ◌↔◌, IsTrue};
+ghost use Rattle.std.specs.Prelude.{◌≡◌};
 
 use std::error::Error;
 use std::fmt;
@@ -17,7 +17,7 @@ pub enum Event<O, A, M> {
 }
 
 impl<O, A, M> Event<O, A, M> {
-    ghost use Rattle.hg_world.specs.Runs.{IsOffer, place_of};
+    ghost use Rattle.hg_world.specs.Runs.{place_of};
 
     /// The place of the node at which the event is to be done, counted from 0.
     pub fn place(&self) -> usize
@@ -28,18 +28,6 @@ impl<O, A, M> Event<O, A, M> {
             Event::Offer { at, ask: _ } => *at,
             Event::Take { at, message: _ } => *at,
             Event::Mark { at, mark: _ } => *at,
-        }
-    }
-
-    // Whether a node is asked for an offer.
-    pub(crate) fn is_offer(&self) -> bool
-        ensures { IsTrue result ↔ IsOffer self.now }
-    {
-        match self {
-            Event::Local { at: _, op: _ } => false,
-            Event::Offer { at: _, ask: _ } => true,
-            Event::Take { at: _, message: _ } => false,
-            Event::Mark { at: _, mark: _ } => false,
         }
     }
 }

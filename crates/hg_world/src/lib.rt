@@ -23,6 +23,9 @@
 //! none for each event, and says that afterwards each node is the least valid state above what it was that covers the
 //! parts that it accepted (`AllLeast`). Events, answers and parts together are the run's `Trace`.
 //!
+//! One event alone needs no list: [`World::local`], [`World::offer`], [`World::take`] and [`World::mark`] each do that
+//! of their name, by the same definition (`Happens`), so any number of these calls is a run too.
+//!
 //! # What follows
 //!
 //! Each of these functions has an empty body, and its contract is a law of all runs, at any states that act. What each
@@ -41,9 +44,9 @@
 //! # What is not promised
 //!
 //! No message need ever be taken, and nodes need not come to cover each other. Where there is an event, memory may run
-//! out: in [`World::run`] before the first event, and else within one, which is then refused as that node's refusals
-//! say. No contract can tell such an answer from one that need not have been, so that is for tests: a run that always
-//! gave up before its first event would meet these contracts.
+//! out: in [`World::run`] before the first event, in [`World::offer`] before its own, and else within one, which is
+//! then refused as that node's refusals say. No contract can tell such an answer from one that need not have been, so
+//! that is for tests: a run that always gave up before its first event would meet these contracts.
 //!
 //! # Example
 //!

@@ -1,7 +1,7 @@
 //! One event after another, over nodes and messages that have room.
 ghost use Rattle.std.specs.Prelude.{◌≡◌, ◌⊎◌, ◌+◌, ◌<◌, ◌≤◌, ℕ, Option, Some, List, [], length, IfOk, OnErr};
 ghost use Rattle.std.specs.Prelude.{MatchResult, vec_len, vec_capacity, slice_get, slice_set};
-ghost use Rattle.hg_world.specs.Runs.{snapshot, Absorbs, Happens, IsOffer, Runs, AllValid};
+ghost use Rattle.hg_world.specs.Runs.{snapshot, Absorbs, AllValid, Happens, IsOffer, Runs};
 ghost use Rattle.hg_world.specs.declared.event.Event.{Event};
 
 use crate::event::{Answer, Event, EventRefusal};
@@ -20,19 +20,22 @@ fn absorb_at<S: Actor>(nodes: &mut [S], at: usize, part: S::Part) -> Result<S::C
     nodes[at].absorb_owned(part)
 }
 
-/// The node at a place decides an operation and absorbs its part. Whatever the messages are, they stay.
-fn decide_at<S: Actor>(
+/// The node at a place, if there is one, decides an operation and absorbs its part. Whatever the messages are, they
+/// stay.
+pub fn decide_at<S: Actor>(
     alloc: Global,
     nodes: &mut [S],
     at: usize,
     op: &S::Op,
 ) -> Answer<S::Change, S::Refusal, S::Fault>
-    requires within { at < length nodes.old }
-    requires valid { AllValid S.JoinState (record { nodes = nodes.old; messages = [] }) }
+    requires { AllValid S.JoinState (record { nodes = nodes.old; messages = [] }) }
     ensures { (messages : List (List ℕ)) → (part : Option S.Part)
         × Happens S.JoinState S.Actor.own (record { nodes = nodes.old; messages = messages }) (Event.Local at op.now)
         result part (record { nodes = nodes.new; messages = messages }) }
 {
+    if at >= nodes.len() {
+        return Answer::Refused(EventRefusal::NoNode);
+    }
     match nodes[at].decide(alloc, op) {
         Ok(decided) => match absorb_at(nodes, at, decided) {
             Ok(change) => Answer::Accepted(change),
@@ -62,18 +65,20 @@ fn take_bytes_at<S: Actor>(
     nodes[at].take(alloc, bytes)
 }
 
-/// The node at a place reads a message and absorbs its part.
-fn take_at<S: Actor>(
+/// The node at a place, if there is one, reads a message and absorbs its part.
+pub fn take_at<S: Actor>(
     alloc: Global,
     nodes: &mut [S],
     messages: &[Vec<u8>],
     at: usize,
     message: usize,
 ) -> Answer<S::Change, S::Refusal, S::Fault>
-    requires { at < length nodes.old }
     ensures { (part : Option S.Part) × Happens S.JoinState S.Actor.own (snapshot nodes.old messages.now)
         (Event.Take at message) result part (snapshot nodes.new messages.now) }
 {
+    if at >= nodes.len() {
+        return Answer::Refused(EventRefusal::NoNode);
+    }
     if message >= messages.len() {
         return Answer::Refused(EventRefusal::NoMessage);
     }
@@ -87,21 +92,23 @@ fn take_at<S: Actor>(
     }
 }
 
-/// The bytes that the node at a place offers become the last message.
-fn offer_at<S: Actor>(
+/// The bytes that the node at a place offers, if there is one, become the last message, for which there is room.
+pub fn offer_at<S: Actor>(
     alloc: Global,
     nodes: &[S],
     messages: &mut Vec<Vec<u8>>,
     at: usize,
     ask: &S::Ask,
 ) -> Answer<S::Change, S::Refusal, S::Fault>
-    requires within { at < length nodes.now }
-    requires room { vec_len messages.old < vec_capacity messages.old }
+    requires { at < length nodes.now → vec_len messages.old < vec_capacity messages.old }
     ensures happens { (part : Option S.Part) × Happens S.JoinState S.Actor.own (snapshot nodes.now messages.old.items)
         (Event.Offer at ask.now) result part (snapshot nodes.now messages.new.items) }
     ensures len { vec_len messages.new ≤ vec_len messages.old + 1 }
     ensures capacity { vec_capacity messages.old ≤ vec_capacity messages.new }
 {
+    if at >= nodes.len() {
+        return Answer::Refused(EventRefusal::NoNode);
+    }
     match nodes[at].offer(alloc, ask) {
         Ok(bytes) => {
             let number = messages.len();
@@ -112,24 +119,26 @@ fn offer_at<S: Actor>(
     }
 }
 
-/// The node at a place marks what is its own. Whatever the messages are, they stay.
-fn mark_at<S: Actor>(
+/// The node at a place, if there is one, marks what is its own. Whatever the messages are, they stay.
+pub fn mark_at<S: Actor>(
     nodes: &mut [S],
     at: usize,
     mark: &S::Mark,
 ) -> Answer<S::Change, S::Refusal, S::Fault>
-    requires { at < length nodes.old }
     ensures { (messages : List (List ℕ)) → (part : Option S.Part)
         × Happens S.JoinState S.Actor.own (record { nodes = nodes.old; messages = messages }) (Event.Mark at mark.now)
         result part (record { nodes = nodes.new; messages = messages }) }
 {
+    if at >= nodes.len() {
+        return Answer::Refused(EventRefusal::NoNode);
+    }
     match nodes[at].mark(mark) {
         Ok(()) => Answer::Marked,
         Err(refusal) => Answer::Refused(EventRefusal::ByActor(refusal)),
     }
 }
 
-/// Does one event.
+// Does one event.
 fn happen<S: Actor>(
     alloc: Global,
     nodes: &mut [S],
@@ -143,36 +152,12 @@ fn happen<S: Actor>(
     ensures len { vec_len messages.new ≤ vec_len messages.old + 1 }
     ensures capacity { vec_capacity messages.old ≤ vec_capacity messages.new }
 {
-    if event.place() >= nodes.len() {
-        return Answer::Refused(EventRefusal::NoNode);
-    }
     match event {
         Event::Local { at, op } => decide_at(alloc, nodes, *at, op),
         Event::Offer { at, ask } => offer_at(alloc, nodes, messages, *at, ask),
         Event::Take { at, message } => take_at(alloc, nodes, messages.as_slice(), *at, *message),
         Event::Mark { at, mark } => mark_at(nodes, *at, mark),
     }
-}
-
-/// Does the event. Before an offer there has to be room for its message.
-#[inline(always)]
-pub fn run_event<S: Actor>(
-    alloc: Global,
-    nodes: &mut [S],
-    messages: &mut Vec<Vec<u8>>,
-    event: &Event<S::Op, S::Ask, S::Mark>,
-) -> Result<Answer<S::Change, S::Refusal, S::Fault>, NoMemory>
-    requires { AllValid S.JoinState (snapshot nodes.old messages.old.items) }
-    ensures happens { IfOk result (λ answer. (part : Option S.Part)
-        × Happens S.JoinState S.Actor.own (snapshot nodes.old messages.old.items)
-        event.now answer part (snapshot nodes.new messages.new.items)) }
-    ensures unchanged { OnErr result (snapshot nodes.new messages.new.items ≡ snapshot nodes.old messages.old.items) }
-    ensures memory { OnErr result (IsOffer event.now) }
-{
-    if event.is_offer() {
-        messages.reserve(1)?;
-    }
-    Ok(happen(alloc, nodes, messages, event))
 }
 
 /// Does the events one after another, once there is room for every answer and every message.

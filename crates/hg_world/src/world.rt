@@ -1,10 +1,11 @@
 //! A world of nodes, with the pool of all that was offered.
 ghost use Rattle.std.specs.Prelude.{◌≡◌, ◌<◌, [], length, Option, IfOk, OnErr, vec_len, slice_get};
 ghost use Rattle.std.specs.Option.{option_copied};
-ghost use Rattle.hg_world.specs.Runs.{HasRun, Happens, IsOffer, AllEmpty, AllUnmarked, AllValid, snapshot};
+ghost use Rattle.hg_world.specs.Runs.{AllEmpty, AllUnmarked, AllValid, Happens, HasRun, snapshot};
+ghost use Rattle.hg_world.specs.declared.event.Event.{Event};
 
 use crate::event::{Answer, Event};
-use crate::steps::{run_all, run_event};
+use crate::steps::{decide_at, mark_at, offer_at, run_all, take_at};
 use hg_join::{Actor, NoMemory};
 use std::alloc::Global;
 use std::marker::Model;
@@ -99,27 +100,61 @@ impl<S: Actor> World<S> {
         )
     }
 
-    /// Does one event and gives its answer, as [`run`](World::run) does, without a list of either.
-    ///
-    /// Memory runs out here only before an offer, whose message wants a place in the pool; within an event it is that
-    /// event's refusal.
+    /// The node at a place, counted from 0, decides an operation and absorbs its part. This is the event
+    /// [`Event::Local`], done as [`run`](World::run) does it, and so are the next three calls of their events.
     #[inline(always)]
-    pub fn run_one(
-        &mut self,
-        event: &Event<S::Op, S::Ask, S::Mark>,
-    ) -> Result<Answer<S::Change, S::Refusal, S::Fault>, NoMemory>
-        ensures happens { IfOk result (λ answer. (part : Option S.Part)
-            × Happens S.JoinState S.Actor.own self.old event.now answer part self.new) }
-        ensures unchanged { OnErr result (self.new ≡ self.old) }
-        ensures memory { OnErr result (IsOffer event.now) }
+    pub fn local(&mut self, at: usize, op: &S::Op) -> Answer<S::Change, S::Refusal, S::Fault>
+        ensures happens { (part : Option S.Part)
+            × Happens S.JoinState S.Actor.own self.old (Event.Local at op.now) result part self.new }
         ensures valid { AllValid S.JoinState self.old }
     {
-        run_event(
+        decide_at(self.alloc, self.nodes.as_mut_slice(), at, op)
+    }
+
+    /// The bytes that the node at a place offers become the last message.
+    ///
+    /// Memory runs out here only where there is such a node, since its message wants a place in the pool; within the
+    /// event it is that event's refusal.
+    pub fn offer(
+        &mut self,
+        at: usize,
+        ask: &S::Ask,
+    ) -> Result<Answer<S::Change, S::Refusal, S::Fault>, NoMemory>
+        ensures happens { IfOk result (λ answer. (part : Option S.Part)
+            × Happens S.JoinState S.Actor.own self.old (Event.Offer at ask.now) answer part self.new) }
+        ensures unchanged { OnErr result (self.new ≡ self.old) }
+        ensures memory { OnErr result (at < length self.old.nodes) }
+        ensures valid { AllValid S.JoinState self.old }
+    {
+        if at < self.nodes.len() {
+            self.messages.reserve(1)?;
+        }
+        let nodes = self.nodes.as_slice();
+        Ok(offer_at(self.alloc, nodes, &mut self.messages, at, ask))
+    }
+
+    /// The node at a place reads the message with this number, counted from 0, and absorbs its part.
+    pub fn take(&mut self, at: usize, message: usize) -> Answer<S::Change, S::Refusal, S::Fault>
+        ensures happens { (part : Option S.Part)
+            × Happens S.JoinState S.Actor.own self.old (Event.Take at message) result part self.new }
+        ensures valid { AllValid S.JoinState self.old }
+    {
+        take_at(
             self.alloc,
             self.nodes.as_mut_slice(),
-            &mut self.messages,
-            event,
+            self.messages.as_slice(),
+            at,
+            message,
         )
+    }
+
+    /// The node at a place marks what is its own.
+    pub fn mark(&mut self, at: usize, mark: &S::Mark) -> Answer<S::Change, S::Refusal, S::Fault>
+        ensures happens { (part : Option S.Part)
+            × Happens S.JoinState S.Actor.own self.old (Event.Mark at mark.now) result part self.new }
+        ensures valid { AllValid S.JoinState self.old }
+    {
+        mark_at(self.nodes.as_mut_slice(), at, mark)
     }
 
     /// The state of a node, if there is one at the place, counted from 0.

@@ -7,7 +7,7 @@ use Rattle.hg_world.proofs.steps.decide_at.Goals as goal
 pub returns-in-Ok-absorb_at : goal.returns-in-Ok-absorb_at
 returns-in-Ok-absorb_at g c =
     let h = c.in-Ok-absorb_at.ensures in
-    let there = slice_get-get_or c.args.nodes.now c.args.at c.index-nodes-at.result c.requires.within in
+    let there = slice_get-get_or c.args.nodes.now c.args.at c.index-nodes-at.result c.if-at-nodes.false in
     let same =
     one_at c.args.nodes.now c.args.at (get_or c.args.nodes.now c.args.at c.index-nodes-at.result) h.0 there h.1 in
     λ messages. (
@@ -29,12 +29,12 @@ returns-in-Err-absorb_at g c =
     let J = g.S.JoinState in
     let laws = g.met.S.JoinState in
     let h = c.in-Err-absorb_at.ensures in
-    let there = slice_get-get_or c.args.nodes.now c.args.at c.index-nodes-at.result c.requires.within in
+    let there = slice_get-get_or c.args.nodes.now c.args.at c.index-nodes-at.result c.if-at-nodes.false in
     let same =
     one_at c.args.nodes.now c.args.at (get_or c.args.nodes.now c.args.at c.index-nodes-at.result) h.0 there h.1 in
     let decided : g.S.Actor.Decides h.0 c.args.op.now c.in-Ok.decided =
     subst (λ (s : g.row.S.Denot). g.S.Actor.Decides s c.args.op.now c.in-Ok.decided) same c.in-Ok.ensures.ok in
-    let valid : J.IsValid (J.content h.0) = c.requires.valid c.args.at h.0 h.1 in
+    let valid : J.IsValid (J.content h.0) = c.requires c.args.at h.0 h.1 in
     let admitted : J.Admits (J.content h.0) (J.part_content c.in-Ok.decided) =
     subst (λ (s : g.row.S.Denot). J.Admits (J.content s) (J.part_content c.in-Ok.decided)) same
     c.in-Ok.ensures.admitted in
@@ -55,6 +55,6 @@ returns-in-Err-absorb_at g c =
 
 pub returns-in-Err : goal.returns-in-Err
 returns-in-Err g c =
-    let there = slice_get-get_or c.args.nodes.now c.args.at c.index-nodes-at.result c.requires.within in
+    let there = slice_get-get_or c.args.nodes.now c.args.at c.index-nodes-at.result c.if-at-nodes.false in
     λ messages.
     (None, (inr (get_or c.args.nodes.now c.args.at c.index-nodes-at.result, there, c.in-Err.ensures.err), refl))

@@ -7,7 +7,7 @@ use Rattle.hg_world.proofs.steps.mark_at.Goals as goal
 pub returns-in-Err : goal.returns-in-Err
 returns-in-Err g c =
     let node = get_or c.args.nodes.now c.args.at c.index-nodes-at.result in
-    let there = slice_get-get_or c.args.nodes.now c.args.at c.index-nodes-at.result c.requires in
+    let there = slice_get-get_or c.args.nodes.now c.args.at c.index-nodes-at.result c.if-at-nodes.false in
     let same = set_what_was c.args.nodes.now c.args.at node c.mark.new.self there c.in-Err.ensures.unchanged in
     λ messages. (
       None,

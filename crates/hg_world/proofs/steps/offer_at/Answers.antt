@@ -4,7 +4,7 @@ use Rattle.hg_world.proofs.steps.offer_at.Goals as goal
 
 pub returns-in-Ok-clause-happens : goal.returns-in-Ok-clause-happens
 returns-in-Ok-clause-happens g c =
-    let there = read_at c.args.nodes.now c.args.at c.index-nodes-at.result c.requires.within c.index-nodes-at.is in (
+    let there = read_at c.args.nodes.now c.args.at c.index-nodes-at.result c.if-at-nodes.false c.index-nodes-at.is in (
       None,
       (
         c.index-nodes-at.result,
@@ -19,5 +19,5 @@ returns-in-Ok-clause-happens g c =
 
 pub returns-in-Err-clause-happens : goal.returns-in-Err-clause-happens
 returns-in-Err-clause-happens g c =
-    let there = read_at c.args.nodes.now c.args.at c.index-nodes-at.result c.requires.within c.index-nodes-at.is in
+    let there = read_at c.args.nodes.now c.args.at c.index-nodes-at.result c.if-at-nodes.false c.index-nodes-at.is in
     (None, (inr (c.index-nodes-at.result, there, c.in-Err.ensures.err), refl))

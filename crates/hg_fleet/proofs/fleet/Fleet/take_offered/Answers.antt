@@ -11,7 +11,7 @@ returns-in-Marked c = takes_nothing _ _ _ (rw c.in-Marked.is refl)
 pub returns-in-Refused : goal.returns-in-Refused
 returns-in-Refused c = takes_nothing _ _ _ (rw c.in-Refused.is refl)
 
-pub returns-in-Ok : goal.returns-in-Ok
-returns-in-Ok c =
-    takes c.args.self.now c.args.taker c.in-Offered.message c.args.offered.now c.in-Ok.answer c.run_one.new.self
-    c.in-Offered.is c.in-Ok.ensures.happens
+pub returns-in-Offered : goal.returns-in-Offered
+returns-in-Offered c =
+    takes c.args.self.now c.args.taker c.in-Offered.message c.args.offered.now c.take.result c.take.new.self
+    c.in-Offered.is c.take.ensures

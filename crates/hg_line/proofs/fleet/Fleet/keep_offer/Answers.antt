@@ -3,6 +3,7 @@ use Rattle.std.proofs.lemmas.Result.{err_from_is_err_and}
 use Rattle.hg_world.specs.declared.event.Event.TheVariants.{Offer}
 use Rattle.hg_line.specs.declared.command.Command.TheVariants as command
 use Rattle.hg_fleet.specs.Pulls.{asking}
+use Rattle.hg_fleet.proofs.PullLemmas.{nowhere}
 use Rattle.hg_line.specs.Events.{no_trace}
 use Rattle.hg_line.proofs.EndingLemmas.{unknown_fault, no_place, fault_of_command, offer_nowhere}
 use Rattle.hg_line.proofs.NameLemmas.{unbound}
@@ -37,12 +38,22 @@ returns-then-is_some-clause-err c =
 pub returns-in_err-answer-clause-err : goal.returns-in_err-answer-clause-err
 returns-in_err-answer-clause-err c =
     let p = err_from_is_err_and c.from_residual-in_err-answer.result c.from_residual-in_err-answer.ensures.1 in
-    let leads = offer_nowhere c.args.self.now c.args.at c.in_ok-place.place
-    (asking c.args.scope c.in_ok-common.common) c.in_ok-place.ensures.ok in
+    rw (p.1, p.2) (ap is_some c.in_ok-place.ensures.ok, (no_trace, c.in_err-answer.ensures.unchanged))
+
+pub returns-in_err-check_printed-clause-err : goal.returns-in_err-check_printed-clause-err
+returns-in_err-check_printed-clause-err c =
+    let p = err_from_is_err_and c.from_residual-in_err-check_printed.result
+    c.from_residual-in_err-check_printed.ensures.1 in
+    let self = c.args.self.now in
+    let ask = asking c.args.scope c.in_ok-common.common in
+    let event = Offer c.in_ok-place.place ask in
+    let h = c.in_ok-answer.ensures.happens in
     rw (p.1, p.2) (
-      fault_of_command _ c.args.self.now (command.Offer c.args.scope c.args.at c.args.message c.args.labels) _
-          (λ h. inl (leads h)) (ap is_some c.in_ok-place.ensures.ok) c.in_err-answer.ensures.fault,
-      (no_trace, c.in_err-answer.ensures.unchanged),
+      fault_of_command _ self (command.Offer c.args.scope c.args.at c.args.message c.args.labels) _
+          (λ absent. inl (offer_nowhere self c.args.at c.in_ok-place.place ask c.in_ok-place.ensures.ok
+          (nowhere self.world event _ h.0 _ h.1 absent)))
+          (ap is_some c.in_ok-place.ensures.ok) c.in_err-check_printed.ensures.fault,
+      ran_after _ _ _ event _ h refl,
     )
 
 pub returns-in_err-name_message-clause-err : goal.returns-in_err-name_message-clause-err
@@ -62,8 +73,8 @@ returns-clause-ok c =
       refl,
       record {
         asked = (c.in_ok-place.place, c.in_ok-common.common, c.in_ok-place.ensures.ok, c.in_ok-common.ensures.ok, refl);
-        ran = (c.run_event.new.world, h.1, refl);
-        printed = (c.in_ok-answer.ensures.printed, tt);
+        ran = (c.offer.new.self, h.1, refl);
+        printed = (c.in_ok-check_printed.ensures.printed, tt);
         named = (
           refl,
           refl,

@@ -2,9 +2,10 @@ use Rattle.std.proofs.Common.{refl, inl, inr, ap, is_some}
 use Rattle.std.proofs.lemmas.Result.{err_from_is_err_and}
 use Rattle.hg_world.specs.declared.event.Event.TheVariants.{Mark}
 use Rattle.hg_line.specs.declared.command.Command.TheVariants as command
+use Rattle.hg_fleet.proofs.PullLemmas.{nowhere}
 use Rattle.hg_line.specs.Events.{no_trace}
 use Rattle.hg_line.proofs.EndingLemmas.{fault_of_command, mark_nowhere, no_place, unknown_fault}
-use Rattle.hg_line.proofs.LineLemmas.{one}
+use Rattle.hg_line.proofs.LineLemmas.{one, ran_after}
 use Rattle.hg_line.proofs.fleet.Fleet.mark.Goals as goal
 
 pub returns-in_err-mark-clause-err : goal.returns-in_err-mark-clause-err
@@ -26,25 +27,30 @@ returns-in_err-place-clause-err c =
       (no_trace, refl),
     )
 
-pub returns-in_err-answer-clause-err : goal.returns-in_err-answer-clause-err
-returns-in_err-answer-clause-err c =
-    let p = err_from_is_err_and c.from_residual-in_err-answer.result c.from_residual-in_err-answer.ensures.1 in
-    let leads = mark_nowhere c.args.self.now c.args.at c.in_ok-place.place c.in_ok-mark.mark c.in_ok-place.ensures.ok in
+pub returns-in_err-check_printed-clause-err : goal.returns-in_err-check_printed-clause-err
+returns-in_err-check_printed-clause-err c =
+    let p = err_from_is_err_and c.from_residual-in_err-check_printed.result
+    c.from_residual-in_err-check_printed.ensures.1 in
+    let self = c.args.self.now in
+    let event = Mark c.in_ok-place.place c.in_ok-mark.mark in
+    let h = c.mark-answer.ensures in
     rw (p.1, p.2) (
-      fault_of_command _ c.args.self.now (command.Mark c.args.at c.args.marking) _ (λ h. inl (leads h))
-          (ap is_some c.in_ok-place.ensures.ok) c.in_err-answer.ensures.fault,
-      (no_trace, c.in_err-answer.ensures.unchanged),
+      fault_of_command _ self (command.Mark c.args.at c.args.marking) _
+          (λ absent. inl (mark_nowhere self c.args.at c.in_ok-place.place c.in_ok-mark.mark c.in_ok-place.ensures.ok
+          (nowhere self.world event _ h.0 _ h.1 absent)))
+          (ap is_some c.in_ok-place.ensures.ok) c.in_err-check_printed.ensures.fault,
+      ran_after _ _ _ event _ h refl,
     )
 
 pub returns-clause-ok : goal.returns-clause-ok
 returns-clause-ok c =
-    let h = c.in_ok-answer.ensures.happens in (
-      one (Mark c.in_ok-place.place c.in_ok-mark.mark) c.in_ok-answer.answer h.0,
+    let h = c.mark-answer.ensures in (
+      one (Mark c.in_ok-place.place c.in_ok-mark.mark) c.mark-answer.result h.0,
       refl,
       record {
         asked = (c.in_ok-place.place, c.in_ok-mark.mark, c.in_ok-place.ensures.ok, c.in_ok-mark.ensures.ok, refl);
-        ran = (c.run_event.new.world, h.1, refl);
-        printed = (c.in_ok-answer.ensures.printed, tt);
+        ran = (c.mark-answer.new.self, h.1, refl);
+        printed = (c.in_ok-check_printed.ensures.printed, tt);
         named = (refl, refl, refl);
       },
     )

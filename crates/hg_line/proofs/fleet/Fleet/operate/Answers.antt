@@ -2,6 +2,7 @@ use Rattle.std.proofs.Common.{List, [], ◌∷◌, map, Some, refl, subst, inl, 
 use Rattle.std.proofs.lemmas.Result.{err_from_is_err_and}
 use Rattle.hg_world.specs.declared.event.Event.TheVariants.{Local}
 use Rattle.hg_line.specs.declared.command.Command.TheVariants as command
+use Rattle.hg_fleet.proofs.PullLemmas.{nowhere}
 use Rattle.hg_line.specs.Events.{no_trace, brought}
 use Rattle.hg_line.specs.Commands.{Text, Word}
 use Rattle.hg_line.specs.Lines.{AreLabelled, ids, may_be_bound}
@@ -52,14 +53,19 @@ returns-in_err-check_labels-clause-err c =
       (no_trace, refl),
     )
 
-pub returns-in_err-answer-clause-err : goal.returns-in_err-answer-clause-err
-returns-in_err-answer-clause-err c =
-    let p = err_from_is_err_and c.from_residual-in_err-answer.result c.from_residual-in_err-answer.ensures.1 in
-    let leads = local_nowhere c.args.self.now c.args.at c.in_ok-place.place c.in_ok-op.op c.in_ok-place.ensures.ok in
+pub returns-in_err-check_printed-clause-err : goal.returns-in_err-check_printed-clause-err
+returns-in_err-check_printed-clause-err c =
+    let p = err_from_is_err_and c.from_residual-in_err-check_printed.result
+    c.from_residual-in_err-check_printed.ensures.1 in
+    let self = c.args.self.now in
+    let event = Local c.in_ok-place.place c.in_ok-op.op in
+    let h = c.local-answer.ensures in
     rw (p.1, p.2) (
-      fault_of_command _ c.args.self.now (command.Operation c.args.at c.args.operation) _ (λ h. inl (leads h))
-          (ap is_some c.in_ok-place.ensures.ok) c.in_err-answer.ensures.fault,
-      (no_trace, c.in_err-answer.ensures.unchanged),
+      fault_of_command _ self (command.Operation c.args.at c.args.operation) _
+          (λ absent. inl (local_nowhere self c.args.at c.in_ok-place.place c.in_ok-op.op c.in_ok-place.ensures.ok
+          (nowhere self.world event _ h.0 _ h.1 absent)))
+          (ap is_some c.in_ok-place.ensures.ok) c.in_err-check_printed.ensures.fault,
+      ran_after _ _ _ event _ h refl,
     )
 
 pub returns-in_err-label-clause-err : goal.returns-in_err-label-clause-err
@@ -67,7 +73,7 @@ returns-in_err-label-clause-err c =
     let p = err_from_is_err_and c.from_residual-in_err-label.result c.from_residual-in_err-label.ensures.1 in
     rw (p.1, p.2, c.in_err-label.ensures.err) (
       ap is_some c.in_ok-place.ensures.ok,
-      ran_after _ _ _ (Local c.in_ok-place.place c.in_ok-op.op) _ c.in_ok-answer.ensures.happens refl,
+      ran_after _ _ _ (Local c.in_ok-place.place c.in_ok-op.op) _ c.local-answer.ensures refl,
     )
 
 pub returns-clause-ok : goal.returns-clause-ok
@@ -75,18 +81,18 @@ returns-clause-ok c =
     let self = c.args.self.now in
     let place = c.in_ok-place.place in
     let op = c.in_ok-op.op in
-    let answer = c.in_ok-answer.answer in
-    let h = c.in_ok-answer.ensures.happens in
+    let answer = c.local-answer.result in
+    let h = c.local-answer.ensures in
     let labels = c.new_labels-labels.ensures in
     let free = free_brought (ids self) (map (λ (w : Word). w.now) c.new_labels-labels.result.now) c.in_ok-kept.kept.now
-    self.world place op answer h.0 c.run_event.new.world c.in_ok-kept.ensures.ok
+    self.world place op answer h.0 c.local-answer.new.self c.in_ok-kept.ensures.ok
     c.in_ok-check_labels.ensures.free h.1 in (
       one (Local place op) answer h.0,
       refl,
       record {
         asked = (place, op, c.in_ok-place.ensures.ok, c.in_ok-op.ensures.ok, refl);
-        ran = (c.run_event.new.world, h.1, refl);
-        printed = (c.in_ok-answer.ensures.printed, tt);
+        ran = (c.local-answer.new.self, h.1, refl);
+        printed = (c.in_ok-check_printed.ensures.printed, tt);
         named = (
           refl,
           subst (λ (ls : List Text). IsTrue (may_be_bound (ids self) ls (brought (h.0 ∷ [])))) labels free,

@@ -1,33 +1,14 @@
-//! Events of a script's world, one at a time.
-ghost use Rattle.std.specs.Prelude.{◌≡◌, Option, IfOk, IfErr, IsSome, OnOk, OnErr};
-ghost use Rattle.hg_replica.specs.Least.{PartValue};
-ghost use Rattle.hg_history.specs.declared.fault.Fault.{Fault};
-ghost use Rattle.hg_world.specs.Runs.{Happens};
-ghost use Rattle.hg_world.specs.declared.event.EventRefusal.{EventRefusal};
-ghost use Rattle.hg_peer.specs.declared.refusal.PeerRefusal.{PeerRefusal};
-ghost use Rattle.hg_peer.specs.Words.{peer_state, peer_words};
-ghost use Rattle.hg_fleet.specs.Pulls.{IsAbsence, IsNowhere, TellsAbsence, answers_of};
+//! What a script goes on from: answers of its world.
+ghost use Rattle.std.specs.Prelude.{◌≡◌, IfErr, IsSome, OnOk};
+ghost use Rattle.hg_fleet.specs.Pulls.{IsAbsence, TellsAbsence, answers_of};
 ghost use Rattle.hg_line.specs.Events.{ArePrinted, HasNumber, IsPrinted, IsUnknownWhere, TellAbsence};
 
 use crate::command_fault::CommandFault;
 use crate::fault::LineFault;
-use hg_fleet::{Fleet, PeerAnswer, PeerEvent, Pulled};
+use hg_fleet::{PeerAnswer, Pulled};
 use hg_history::Fault;
 use hg_peer::PeerRefusal;
 use hg_world::{Answer, EventRefusal};
-
-/// Runs an event, and gives its answer where a script goes on from it.
-pub fn run_event(world: &mut Fleet, event: &PeerEvent) -> Result<PeerAnswer, CommandFault>
-    ensures printed { IfOk result IsPrinted }
-    ensures happens { IfOk result (λ answer. (part : Option PartValue)
-        × Happens peer_state peer_words world.old event.now answer part world.new) }
-    ensures fault { IfErr result (IsUnknownWhere (IsNowhere world.old event.now)) }
-    ensures unchanged { OnErr result (world.new ≡ world.old) }
-{
-    let answer = world.run_one(event)?;
-    check_printed(&answer)?;
-    Ok(answer)
-}
 
 /// Lets a script go on from what a pull was answered.
 pub fn check_pulled(pulled: &Pulled) -> Result<(), CommandFault>
@@ -41,12 +22,10 @@ pub fn check_pulled(pulled: &Pulled) -> Result<(), CommandFault>
     }
 }
 
-// Lets a script go on from an answer: the event was done, or refused for a reason that is printed.
-fn check_printed(answer: &PeerAnswer) -> Result<(), CommandFault>
+/// Lets a script go on from an answer: the event was done, or refused for a reason that is printed.
+pub fn check_printed(answer: &PeerAnswer) -> Result<(), CommandFault>
     ensures printed { OnOk result (IsPrinted answer.now) }
     ensures fault { IfErr result (IsUnknownWhere (TellsAbsence answer.now)) }
-    ensures refused { OnErr result
-        ((refusal : EventRefusal PeerRefusal Fault) × (answer.now ≡ Answer.Refused refusal)) }
 {
     match answer {
         Answer::Refused(refusal) => check_numbered(refusal),
