@@ -1,6 +1,4 @@
 //! What may be asked of a world, and what it answers.
-ghost use Rattle.std.specs.Prelude.{◌≡◌};
-
 use std::error::Error;
 use std::fmt;
 
@@ -14,22 +12,6 @@ pub enum Event<O, A, M> {
 
     /// What is to be done to what is the node's own.
     Mark { at: usize, mark: M },
-}
-
-impl<O, A, M> Event<O, A, M> {
-    ghost use Rattle.hg_world.specs.Runs.{place_of};
-
-    /// The place of the node at which the event is to be done, counted from 0.
-    pub fn place(&self) -> usize
-        ensures { result ≡ place_of self.now }
-    {
-        match self {
-            Event::Local { at, op: _ } => *at,
-            Event::Offer { at, ask: _ } => *at,
-            Event::Take { at, message: _ } => *at,
-            Event::Mark { at, mark: _ } => *at,
-        }
-    }
 }
 
 /// Why an event was refused. A missing node is told first, and then a missing message. Its text is the name of the
