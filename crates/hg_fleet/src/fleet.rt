@@ -132,7 +132,7 @@ impl Fleet {
         self.world.offer(at, ask)
     }
 
-    /// The peer at a place takes the message with this number, counted from 0, in. It gives the answer to that event of
+    /// The peer at a place takes in the message with this number, counted from 0. It gives the answer to that event of
     /// the world, before which no memory runs out.
     pub fn take(&mut self, at: usize, message: usize) -> PeerAnswer
         ensures { (part : Option PartValue)
@@ -153,21 +153,23 @@ impl Fleet {
     /// The taker takes in what the giver serves above the heads that both have in common. It gives what the offer and
     /// the taking were answered, or nothing where one of the two is absent.
     ///
-    /// Both are events of one run of the world. Memory runs out here only before the first of them, and nothing changed
-    /// then; within an event it is that event's refusal. So a refused offer changes nothing, and a message whose taking
-    /// is refused stays among the messages.
+    /// Both are events of one run of the world. Memory runs out here only where both peers are there, before the first
+    /// of them, and nothing changed then; within an event it is that event's refusal. So a refused offer changes
+    /// nothing, and a message whose taking is refused stays among the messages.
     pub fn pull(&mut self, taker: usize, giver: usize) -> Result<Option<Pulled>, NoMemory>
         ensures pulled { IfOk result (λ pulled. IsPulled self.old taker giver Served pulled self.new) }
         ensures unchanged { OnErr result (self.new ≡ self.old) }
+        ensures memory { OnErr result (¬ (IsOneAbsent self.old taker giver)) }
     {
         self.exchange(taker, giver, Scope::Served)
     }
 
-    /// The taker takes in all that the giver holds but what is secret, also what is hidden and what it holds already.
-    /// Answers and want of memory are those of [`pull`](Fleet::pull).
+    /// The taker takes in all that the giver holds and isn't secret, hidden or not, with every marker, even what the
+    /// taker holds already. Answers and want of memory are those of [`pull`](Fleet::pull).
     pub fn share(&mut self, taker: usize, giver: usize) -> Result<Option<Pulled>, NoMemory>
         ensures pulled { IfOk result (λ pulled. IsPulled self.old taker giver Whole pulled self.new) }
         ensures unchanged { OnErr result (self.new ≡ self.old) }
+        ensures memory { OnErr result (¬ (IsOneAbsent self.old taker giver)) }
     {
         self.exchange(taker, giver, Scope::Whole)
     }
@@ -181,6 +183,7 @@ impl Fleet {
     ) -> Result<Option<Pulled>, NoMemory>
         ensures pulled { IfOk result (λ pulled. IsPulled self.old taker giver scope pulled self.new) }
         ensures unchanged { OnErr result (self.new ≡ self.old) }
+        ensures memory { OnErr result (¬ (IsOneAbsent self.old taker giver)) }
     {
         let Some(common) = self.left_out(taker, giver, scope)? else {
             return Ok(None);
@@ -201,6 +204,7 @@ impl Fleet {
         ensures heads { IfOk result (λ common. MatchOption common (IsOneAbsent self.old taker giver)
             (λ heads. AreLeftOutAt scope self.old taker giver heads.items)) }
         ensures unchanged { self.new ≡ self.old }
+        ensures memory { OnErr result (¬ (IsOneAbsent self.old taker giver)) }
     {
         let Some(asker) = kept_at(&self.world, taker) else {
             return Ok(None);

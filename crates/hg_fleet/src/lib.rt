@@ -3,7 +3,7 @@
 //! A [`Fleet`] is a world of peers ([`hg_world`], [`hg_peer`]) that also notes how far each two of them were compared.
 //! So one can ask the other for exactly what it lacks: [`Fleet::pull`] finds the heads of what both have in common
 //! ([`hg_discovery`]), lets the giver offer what it serves above them, and lets the taker take that in. Two peers that
-//! pull often compare each changeset once. [`Fleet::share`] offers everything but what is secret.
+//! pull often compare each changeset once. [`Fleet::share`] does so with everything but what is secret, above nothing.
 //!
 //! [`Fleet::local`] is an operation of a peer's own, and [`Fleet::mark`] a pin. With [`Fleet::offer`] and
 //! [`Fleet::take`] a message may come late, again or never.

@@ -72,15 +72,3 @@ fn refused_growth_changes_nothing_and_each_event_is_answered_as_ever(rt: HostRun
     assert!(rt; world.message(0) == Some([1, 9].as_slice()));
     assert!(rt; world.message(1) == Some([].as_slice()));
 }
-
-#[test]
-fn an_event_is_done_by_its_own_call(rt: HostRuntime) {
-    let alloc = rt.alloc();
-    let mut world = World::<Prices>::new(alloc, 2).expect(&rt, "memory");
-    let ask = [1].to_vec(alloc).expect(&rt, "memory");
-    assert!(rt; world.local(0, &(1, 9)) == Answer::Accepted(()));
-    assert!(rt; world.offer(0, &ask) == Ok(Answer::Offered(0)));
-    assert!(rt; world.mark(0, &1) == Answer::Marked);
-    assert!(rt; world.take(1, 0) == Answer::Accepted(()));
-    assert_eq!(rt; price_at(&world, 1), Some(9));
-}

@@ -1,7 +1,7 @@
-//! Tests of `hg_message`, `hg_discovery`, `hg_rewrite`, `hg_peer`, `hg_fleet`, `hg_trial`, `hg_log`, `hg_why`,
-//! `hg_preview` and `hg_show`, as a caller from outside sees them: messages, what two replicas have in common,
-//! operations, worlds of peers, fleets, what becomes of a repository that takes messages in, drawings, why changesets
-//! are unstable, in what two repositories differ, and what bytes are shown as.
+//! Tests of `hg_message`, `hg_discovery`, `hg_rewrite`, `hg_peer`, `hg_trial`, `hg_log`, `hg_why`, `hg_preview` and
+//! `hg_show`, as a caller from outside sees them: messages, what two replicas have in common, operations, worlds of
+//! peers, what becomes of a repository that takes messages in, drawings, why changesets are unstable, in what two
+//! repositories differ, and what bytes are shown as.
 #![tactic(auto)]
 
 #[cfg(test)]
@@ -14,8 +14,6 @@ mod discovery;
 mod drawings;
 #[cfg(test)]
 mod exchanges;
-#[cfg(test)]
-mod fleets;
 #[cfg(test)]
 mod offers;
 #[cfg(test)]

@@ -95,7 +95,7 @@ module _ {S O A M R P C F : Type 0} (J : StateWords S P C F) (W : ActorWords S O
       (record { nodes = now; messages = messages }) →
       AllValid J (record { nodes = take (vec_len nodes) (now ++ drop (length now) nodes.items); messages = messages })
   valid_written nodes now messages event answer part v len h =
-      rw (all_written (vec_len nodes) now (drop (length now) nodes.items) len) (valid_after
+      rw (all_written nodes now len) (valid_after
       (record { nodes = nodes.items; messages = messages }) (record { nodes = now; messages = messages }) event answer
       part v h)
 

@@ -1,5 +1,7 @@
 -- A run goes on by one event, and by another run.
-use Rattle.std.proofs.Common.{◌≡◌, ℕ, Option, List, [], ◌∷◌, ◌++◌, length, take, refl, subst}
+use Rattle.std.proofs.Common.{◌≡◌, Option, List, [], ◌∷◌, ◌++◌, length, take, drop, vec_len, refl, subst}
+use Rattle.std.specs.declared.vec.Vec.{Vec}
+use Rattle.std.specs.declared.alloc.Global.{Global}
 use Rattle.std.specs.Prelude.{Result, Ok, Err, IfOk, OnErr}
 use Rattle.std.proofs.Math.Seq.{take-append_seam}
 use Rattle.hg_join.specs.declared.state.JoinState.{Ghosts as StateWords}
@@ -29,8 +31,9 @@ module _ {S O A M R P C F : Type 0} (J : StateWords S P C F) (W : ActorWords S O
       run_on old mid new events (event ∷ []) answers (answer ∷ []) parts (part ∷ []) h (new, k, refl)
 
 -- a vector's items, all of them written
-pub all_written : {X : Type 0} (n : ℕ) (xs ys : List X) → length xs ≡ n → take n (xs ++ ys) ≡ xs
-all_written n xs ys e = rw (← e) (take-append_seam xs ys)
+pub all_written : {X : Type 0} (v : Vec X Global) (xs : List X) → length xs ≡ vec_len v
+    → take (vec_len v) (xs ++ drop (length xs) v.items) ≡ xs
+all_written v xs e = rw (← e) (take-append_seam xs (drop (length xs) v.items))
 
 pub if_ok_then : {T E : Type 0} (r : Result T E) (Q R : T → Type 0) → ((x : T) → Q x → R x) → IfOk r Q → IfOk r R
 if_ok_then (Ok x) Q R f h = f x h

@@ -3,7 +3,7 @@ use std::error::Error;
 use std::fmt;
 
 /// What is to be done at a node: an operation of its own, an offer, a message of the pool that it is to take, or a
-/// mark.
+/// mark. `at` is the node's place, and `message` the message's number, both counted from 0.
 #[derive(Drop)]
 pub enum Event<O, A, M> {
     Local { at: usize, op: O },

@@ -8,7 +8,7 @@ use crate::event::{Answer, Event, EventRefusal};
 use hg_join::{Actor, JoinState, NoMemory};
 use std::alloc::Global;
 
-/// The node at a place absorbs a part, which is moved into it.
+// The node at a place absorbs a part, which is moved into it.
 fn absorb_at<S: Actor>(nodes: &mut [S], at: usize, part: S::Part) -> Result<S::Change, S::Fault>
     requires { at < length nodes.old }
     ensures { (node : S) × (slice_get nodes.old at ≡ Some node)
@@ -45,7 +45,7 @@ pub fn decide_at<S: Actor>(
     }
 }
 
-/// The node at a place takes in the part that bytes spell, or the bytes spell none.
+// The node at a place takes in the part that bytes spell, or the bytes spell none.
 fn take_bytes_at<S: Actor>(
     alloc: Global,
     nodes: &mut [S],

@@ -100,8 +100,8 @@ impl<S: Actor> World<S> {
         )
     }
 
-    /// The node at a place, counted from 0, decides an operation and absorbs its part. This is the event
-    /// [`Event::Local`], done as [`run`](World::run) does it, and so are the next three calls of their events.
+    /// The node at a place, counted from 0, decides an operation and absorbs its part. The answer is that of
+    /// [`run`](World::run) to this [`Event::Local`]: `NoNode` where there is no such node.
     #[inline(always)]
     pub fn local(&mut self, at: usize, op: &S::Op) -> Answer<S::Change, S::Refusal, S::Fault>
         ensures happens { (part : Option S.Part)
@@ -111,7 +111,8 @@ impl<S: Actor> World<S> {
         decide_at(self.alloc, self.nodes.as_mut_slice(), at, op)
     }
 
-    /// The bytes that the node at a place offers become the last message.
+    /// The bytes that the node at a place, counted from 0, offers become the last message. The answer is that of
+    /// [`run`](World::run) to this [`Event::Offer`]: `NoNode` where there is no such node.
     ///
     /// Memory runs out here only where there is such a node, since its message wants a place in the pool; within the
     /// event it is that event's refusal.
@@ -133,7 +134,9 @@ impl<S: Actor> World<S> {
         Ok(offer_at(self.alloc, nodes, &mut self.messages, at, ask))
     }
 
-    /// The node at a place reads the message with this number, counted from 0, and absorbs its part.
+    /// The node at a place reads the message with this number, both counted from 0, and absorbs its part. The answer is
+    /// that of [`run`](World::run) to this [`Event::Take`]: `NoNode` where there is no such node, and then `NoMessage`
+    /// where there is no such message.
     pub fn take(&mut self, at: usize, message: usize) -> Answer<S::Change, S::Refusal, S::Fault>
         ensures happens { (part : Option S.Part)
             × Happens S.JoinState S.Actor.own self.old (Event.Take at message) result part self.new }
@@ -148,7 +151,8 @@ impl<S: Actor> World<S> {
         )
     }
 
-    /// The node at a place marks what is its own.
+    /// The node at a place, counted from 0, marks what is its own. The answer is that of [`run`](World::run) to this
+    /// [`Event::Mark`]: `NoNode` where there is no such node.
     pub fn mark(&mut self, at: usize, mark: &S::Mark) -> Answer<S::Change, S::Refusal, S::Fault>
         ensures happens { (part : Option S.Part)
             × Happens S.JoinState S.Actor.own self.old (Event.Mark at mark.now) result part self.new }

@@ -1,4 +1,4 @@
-use Rattle.std.proofs.Common.{length, drop, ◌∙◌}
+use Rattle.std.proofs.Common.{◌∙◌}
 use Rattle.hg_world.specs.Runs.{bytes_of}
 use Rattle.hg_world.specs.declared.event.Event.TheVariants.{Local}
 use Rattle.hg_world.proofs.Least.{valid_written}
@@ -17,9 +17,8 @@ invariant_of-self g c =
 
 pub returns-clause-happens : goal.returns-clause-happens
 returns-clause-happens g c =
-    let nodes = c.self.inside.nodes in
-    let whole =
-    all_written nodes.len c.decide_at.new.nodes (drop (length c.decide_at.new.nodes) nodes.items)
-    (c.decide_at.auto.nodes ∙ c.as_mut_slice.ensures.len) in
     let h = rw c.as_mut_slice.ensures.value at c.decide_at.ensures (bytes_of c.self.inside.messages.items) in
-    rw (whole, ← c.self.view_is) h
+    rw (
+      all_written c.self.inside.nodes c.decide_at.new.nodes (c.decide_at.auto.nodes ∙ c.as_mut_slice.ensures.len),
+      ← c.self.view_is,
+    ) h

@@ -1,4 +1,4 @@
-use Rattle.std.proofs.Common.{List, Option, length, drop, sym, ◌∙◌, subst}
+use Rattle.std.proofs.Common.{List, Option, sym, ◌∙◌, subst}
 use Rattle.hg_world.specs.Runs.{Snapshot, snapshot, AllValid, AllLeast, Runs}
 use Rattle.hg_world.proofs.Least.{run_is_least, run_is_valid}
 use Rattle.hg_world.proofs.Longer.{all_written, if_ok_then, either_way}
@@ -9,9 +9,7 @@ invariant_of-self g c =
     let laws = g.met.S.JoinState in
     let J = g.S.JoinState in
     let whole =
-    all_written c.self.inside.nodes.len c.run_all.new.nodes
-    (drop (length c.run_all.new.nodes) c.self.inside.nodes.items)
-    (c.run_all.auto.nodes ∙ c.as_mut_slice.ensures.len) in
+    all_written c.self.inside.nodes c.run_all.new.nodes (c.run_all.auto.nodes ∙ c.as_mut_slice.ensures.len) in
     let old : Snapshot g.row.S.Denot = snapshot c.as_mut_slice.result.now c.self.inside.messages.items in
     let new : Snapshot g.row.S.Denot = snapshot c.run_all.new.nodes c.run_all.new.messages.items in
     let before : AllValid J old = rw c.as_mut_slice.ensures.value c.self.invariant in
@@ -27,9 +25,7 @@ returns-clause-ran g c =
     let laws = g.met.S.JoinState in
     let J = g.S.JoinState in
     let whole =
-    all_written c.self.inside.nodes.len c.run_all.new.nodes
-    (drop (length c.run_all.new.nodes) c.self.inside.nodes.items)
-    (c.run_all.auto.nodes ∙ c.as_mut_slice.ensures.len) in
+    all_written c.self.inside.nodes c.run_all.new.nodes (c.run_all.auto.nodes ∙ c.as_mut_slice.ensures.len) in
     let old : Snapshot g.row.S.Denot = snapshot c.self.inside.nodes.items c.self.inside.messages.items in
     let new : Snapshot g.row.S.Denot = snapshot c.run_all.new.nodes c.run_all.new.messages.items in
     let ran = rw c.as_mut_slice.ensures.value at c.run_all.ensures.ran in
