@@ -23,6 +23,7 @@ use Rattle.hg_peer.specs.declared.ask.Ask.{Ask}
 use Rattle.hg_world.specs.declared.event.Answer.TheVariants.{Accepted, Offered, Marked, Refused}
 use Rattle.hg_peer.specs.declared.mark.Mark.{Mark as PeerMark}
 use Rattle.hg_fleet.specs.Pulls.{IsNowhere, IsOneAbsent, TellsAbsence}
+use Rattle.hg_fleet.proofs.PullLemmas.{nowhere}
 use Rattle.hg_peer.specs.Peers.{Decides}
 use Rattle.hg_peer.specs.Words.{peer_words, peer_state}
 use Rattle.hg_line.specs.declared.command.Command.{Command}
@@ -43,7 +44,7 @@ use Rattle.hg_line.specs.Commands.{Text, Word, texts, CommandAnswer, LineAnswer}
 use Rattle.hg_line.specs.Endings.{UsesUnknown, AreLabelsFree, IsTakenFault, IsNodeFault, IsNameFault, PrintsSome}
 use Rattle.hg_line.specs.Endings.{IsCommandFault, IsFaultOf, IsLeftBy, HasWords, Says, IsLineFault, IsOfLine, EndsAt}
 use Rattle.hg_line.specs.Endings.{AreWanting, StaysAtLine, StaysAtName, WantsMemory}
-use Rattle.hg_line.specs.Events.{Trace, PeerAnswer, no_trace, Meaning, HasUnknown, IsUnknownWhere}
+use Rattle.hg_line.specs.Events.{Trace, PeerAnswer, PeerEvent, Ran, no_trace, Meaning, HasUnknown, IsUnknownWhere}
 use Rattle.hg_line.specs.Events.{IsOperation, TellAbsence, brought, is_refusal, new_labels, refusals}
 use Rattle.hg_line.specs.Faults.{at_line, in_text_fault}
 use Rattle.hg_names.specs.Names.{AreDistinct}
@@ -53,6 +54,7 @@ use Rattle.hg_line.specs.Lines.{Does, DoesLine}
 use Rattle.hg_line.specs.Stops.{StopsAt}
 use Rattle.hg_line.specs.Outcomes.{IsEndedBy}
 use Rattle.hg_line.specs.Words.{words_of}
+use Rattle.hg_line.proofs.LineLemmas.{ran_after}
 use Rattle.hg_line.proofs.LabelLemmas.{twice_taken, nothing_free, new_apart, made_for}
 
 -- ---- names that stand for nothing
@@ -213,6 +215,19 @@ pub mark_nowhere : (f : Fleet) (at : Word) (place : ℕ) (mark : PeerMark) → p
     → IsNowhere f.world (event.Mark place mark) → node_named f at.now ≡ None
 mark_nowhere f at place mark is (inl none) = node_from_place f at.now place None is none
 mark_nowhere f at place mark is (inr h) = absurd h
+
+-- an event that a script doesn't go on from: its command is at fault so, and what happened is a run
+pub ended_at_event : (f : Fleet) (command : Command) (asked : PeerEvent) (answer : PeerAnswer)
+    (new : Snapshot KeptValue) (fault : CommandFault)
+    → (part : Option PartValue) × Happens peer_state peer_words f.world asked answer part new
+    → (IsNowhere f.world asked → UsesUnknown f command) → WantsMemory f command
+    → IsUnknownWhere (TellsAbsence answer) fault
+    → IsFaultOf f command fault × ((t : Trace) × Ran f.world t new)
+ended_at_event f command asked answer new fault happens leads wants is = (
+  fault_of_command (TellsAbsence answer) f command fault
+      (λ absent. leads (nowhere f.world asked answer happens.0 new happens.1 absent)) wants is,
+  ran_after f.world new new asked answer happens refl,
+)
 
 -- one of the two of a pull
 pub pull_absent : (f : Fleet) (scope : Scope) (to from : Word) (taker giver : ℕ) → places f from.now ≡ Some giver

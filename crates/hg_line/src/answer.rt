@@ -10,7 +10,8 @@ use hg_history::Fault;
 use hg_peer::PeerRefusal;
 use hg_world::{Answer, EventRefusal};
 
-/// Lets a script go on from what a pull was answered.
+/// Lets a script go on from what a pull was answered. What is absent is the fault `UnknownName`, and want of memory is
+/// `NoMemory`.
 pub fn check_pulled(pulled: &Pulled) -> Result<(), CommandFault>
     ensures printed { OnOk result (ArePrinted (answers_of pulled.now)) }
     ensures fault { IfErr result (IsUnknownWhere (TellAbsence (answers_of pulled.now))) }
@@ -22,7 +23,8 @@ pub fn check_pulled(pulled: &Pulled) -> Result<(), CommandFault>
     }
 }
 
-/// Lets a script go on from an answer: the event was done, or refused for a reason that is printed.
+/// Lets a script go on from an answer: the event was done, or refused for a reason that is printed. What is absent is
+/// the fault `UnknownName`, and want of memory is `NoMemory`.
 pub fn check_printed(answer: &PeerAnswer) -> Result<(), CommandFault>
     ensures printed { OnOk result (IsPrinted answer.now) }
     ensures fault { IfErr result (IsUnknownWhere (TellsAbsence answer.now)) }

@@ -3,9 +3,8 @@ use Rattle.std.proofs.lemmas.Result.{err_from_is_err_and}
 use Rattle.hg_world.specs.declared.event.Event.TheVariants.{Offer}
 use Rattle.hg_line.specs.declared.command.Command.TheVariants as command
 use Rattle.hg_fleet.specs.Pulls.{asking}
-use Rattle.hg_fleet.proofs.PullLemmas.{nowhere}
 use Rattle.hg_line.specs.Events.{no_trace}
-use Rattle.hg_line.proofs.EndingLemmas.{unknown_fault, no_place, fault_of_command, offer_nowhere}
+use Rattle.hg_line.proofs.EndingLemmas.{ended_at_event, fault_of_command, no_place, offer_nowhere, unknown_fault}
 use Rattle.hg_line.proofs.NameLemmas.{unbound}
 use Rattle.hg_line.proofs.LineLemmas.{one, ran_after}
 use Rattle.hg_line.proofs.fleet.Fleet.keep_offer.Goals as goal
@@ -46,15 +45,10 @@ returns-in_err-check_printed-clause-err c =
     c.from_residual-in_err-check_printed.ensures.1 in
     let self = c.args.self.now in
     let ask = asking c.args.scope c.in_ok-common.common in
-    let event = Offer c.in_ok-place.place ask in
-    let h = c.in_ok-answer.ensures.happens in
-    rw (p.1, p.2) (
-      fault_of_command _ self (command.Offer c.args.scope c.args.at c.args.message c.args.labels) _
-          (λ absent. inl (offer_nowhere self c.args.at c.in_ok-place.place ask c.in_ok-place.ensures.ok
-          (nowhere self.world event _ h.0 _ h.1 absent)))
-          (ap is_some c.in_ok-place.ensures.ok) c.in_err-check_printed.ensures.fault,
-      ran_after _ _ _ event _ h refl,
-    )
+    rw (p.1, p.2) (ended_at_event self (command.Offer c.args.scope c.args.at c.args.message c.args.labels)
+    (Offer c.in_ok-place.place ask) _ _ _ c.in_ok-answer.ensures.happens
+    (λ there. inl (offer_nowhere self c.args.at c.in_ok-place.place ask c.in_ok-place.ensures.ok there))
+    (ap is_some c.in_ok-place.ensures.ok) c.in_err-check_printed.ensures.fault)
 
 pub returns-in_err-name_message-clause-err : goal.returns-in_err-name_message-clause-err
 returns-in_err-name_message-clause-err c =

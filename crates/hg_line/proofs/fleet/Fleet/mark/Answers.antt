@@ -2,10 +2,9 @@ use Rattle.std.proofs.Common.{refl, inl, inr, ap, is_some}
 use Rattle.std.proofs.lemmas.Result.{err_from_is_err_and}
 use Rattle.hg_world.specs.declared.event.Event.TheVariants.{Mark}
 use Rattle.hg_line.specs.declared.command.Command.TheVariants as command
-use Rattle.hg_fleet.proofs.PullLemmas.{nowhere}
 use Rattle.hg_line.specs.Events.{no_trace}
-use Rattle.hg_line.proofs.EndingLemmas.{fault_of_command, mark_nowhere, no_place, unknown_fault}
-use Rattle.hg_line.proofs.LineLemmas.{one, ran_after}
+use Rattle.hg_line.proofs.EndingLemmas.{ended_at_event, fault_of_command, mark_nowhere, no_place, unknown_fault}
+use Rattle.hg_line.proofs.LineLemmas.{one}
 use Rattle.hg_line.proofs.fleet.Fleet.mark.Goals as goal
 
 pub returns-in_err-mark-clause-err : goal.returns-in_err-mark-clause-err
@@ -32,15 +31,10 @@ returns-in_err-check_printed-clause-err c =
     let p = err_from_is_err_and c.from_residual-in_err-check_printed.result
     c.from_residual-in_err-check_printed.ensures.1 in
     let self = c.args.self.now in
-    let event = Mark c.in_ok-place.place c.in_ok-mark.mark in
-    let h = c.mark-answer.ensures in
-    rw (p.1, p.2) (
-      fault_of_command _ self (command.Mark c.args.at c.args.marking) _
-          (λ absent. inl (mark_nowhere self c.args.at c.in_ok-place.place c.in_ok-mark.mark c.in_ok-place.ensures.ok
-          (nowhere self.world event _ h.0 _ h.1 absent)))
-          (ap is_some c.in_ok-place.ensures.ok) c.in_err-check_printed.ensures.fault,
-      ran_after _ _ _ event _ h refl,
-    )
+    rw (p.1, p.2) (ended_at_event self (command.Mark c.args.at c.args.marking)
+    (Mark c.in_ok-place.place c.in_ok-mark.mark) _ _ _ c.mark-answer.ensures
+    (λ there. inl (mark_nowhere self c.args.at c.in_ok-place.place c.in_ok-mark.mark c.in_ok-place.ensures.ok there))
+    (ap is_some c.in_ok-place.ensures.ok) c.in_err-check_printed.ensures.fault)
 
 pub returns-clause-ok : goal.returns-clause-ok
 returns-clause-ok c =

@@ -2,12 +2,11 @@ use Rattle.std.proofs.Common.{List, [], ◌∷◌, map, Some, refl, subst, inl, 
 use Rattle.std.proofs.lemmas.Result.{err_from_is_err_and}
 use Rattle.hg_world.specs.declared.event.Event.TheVariants.{Local}
 use Rattle.hg_line.specs.declared.command.Command.TheVariants as command
-use Rattle.hg_fleet.proofs.PullLemmas.{nowhere}
 use Rattle.hg_line.specs.Events.{no_trace, brought}
 use Rattle.hg_line.specs.Commands.{Text, Word}
 use Rattle.hg_line.specs.Lines.{AreLabelled, ids, may_be_bound}
-use Rattle.hg_line.proofs.EndingLemmas.{fault_of_command, free_brought, local_nowhere, no_place, node_fault}
-use Rattle.hg_line.proofs.EndingLemmas.{node_from_place, taken_fault, unknown_fault}
+use Rattle.hg_line.proofs.EndingLemmas.{ended_at_event, fault_of_command, free_brought, local_nowhere}
+use Rattle.hg_line.proofs.EndingLemmas.{no_place, node_fault, node_from_place, taken_fault, unknown_fault}
 use Rattle.hg_line.proofs.LineLemmas.{one, ran_after}
 use Rattle.hg_line.proofs.fleet.Fleet.operate.Goals as goal
 
@@ -58,15 +57,10 @@ returns-in_err-check_printed-clause-err c =
     let p = err_from_is_err_and c.from_residual-in_err-check_printed.result
     c.from_residual-in_err-check_printed.ensures.1 in
     let self = c.args.self.now in
-    let event = Local c.in_ok-place.place c.in_ok-op.op in
-    let h = c.local-answer.ensures in
-    rw (p.1, p.2) (
-      fault_of_command _ self (command.Operation c.args.at c.args.operation) _
-          (λ absent. inl (local_nowhere self c.args.at c.in_ok-place.place c.in_ok-op.op c.in_ok-place.ensures.ok
-          (nowhere self.world event _ h.0 _ h.1 absent)))
-          (ap is_some c.in_ok-place.ensures.ok) c.in_err-check_printed.ensures.fault,
-      ran_after _ _ _ event _ h refl,
-    )
+    rw (p.1, p.2) (ended_at_event self (command.Operation c.args.at c.args.operation)
+    (Local c.in_ok-place.place c.in_ok-op.op) _ _ _ c.local-answer.ensures
+    (λ there. inl (local_nowhere self c.args.at c.in_ok-place.place c.in_ok-op.op c.in_ok-place.ensures.ok there))
+    (ap is_some c.in_ok-place.ensures.ok) c.in_err-check_printed.ensures.fault)
 
 pub returns-in_err-label-clause-err : goal.returns-in_err-label-clause-err
 returns-in_err-label-clause-err c =

@@ -2,10 +2,9 @@ use Rattle.std.proofs.Common.{refl, sym, ◌∙◌, inl, inr, ap, is_some}
 use Rattle.std.proofs.lemmas.Result.{err_from_is_err_and}
 use Rattle.hg_world.specs.declared.event.Event.TheVariants.{Take}
 use Rattle.hg_line.specs.declared.command.Command.TheVariants as command
-use Rattle.hg_fleet.proofs.PullLemmas.{nowhere}
 use Rattle.hg_line.specs.Events.{no_trace}
-use Rattle.hg_line.proofs.EndingLemmas.{fault_of_command, unknown_fault, no_place, no_message, take_nowhere}
-use Rattle.hg_line.proofs.LineLemmas.{one, ran_after}
+use Rattle.hg_line.proofs.EndingLemmas.{ended_at_event, no_message, no_place, take_nowhere, unknown_fault}
+use Rattle.hg_line.proofs.LineLemmas.{one}
 use Rattle.hg_line.proofs.fleet.Fleet.take.Goals as goal
 
 pub returns-in_err-at-clause-err : goal.returns-in_err-at-clause-err
@@ -27,15 +26,11 @@ returns-in_err-check_printed-clause-err c =
     let p = err_from_is_err_and c.from_residual-in_err-check_printed.result
     c.from_residual-in_err-check_printed.ensures.1 in
     let self = c.args.self.now in
-    let event = Take c.in_ok-at.at c.in-Some.message in
-    let h = c.take-answer.ensures in
-    rw (p.1, p.2) (
-      fault_of_command _ self (command.Take c.args.at c.args.message) _
-          (λ absent. take_nowhere self c.args.at c.args.message c.in_ok-at.at c.in-Some.message c.in_ok-at.ensures.ok
-          (sym c.bound.ensures ∙ c.in-Some.is) (nowhere self.world event _ h.0 _ h.1 absent))
-          (ap is_some c.in_ok-at.ensures.ok) c.in_err-check_printed.ensures.fault,
-      ran_after _ _ _ event _ h refl,
-    )
+    let leads = take_nowhere self c.args.at c.args.message c.in_ok-at.at c.in-Some.message c.in_ok-at.ensures.ok
+    (sym c.bound.ensures ∙ c.in-Some.is) in
+    rw (p.1, p.2) (ended_at_event self (command.Take c.args.at c.args.message)
+    (Take c.in_ok-at.at c.in-Some.message) _ _ _ c.take-answer.ensures leads
+    (ap is_some c.in_ok-at.ensures.ok) c.in_err-check_printed.ensures.fault)
 
 pub returns-clause-ok : goal.returns-clause-ok
 returns-clause-ok c =
