@@ -12,6 +12,7 @@ use Rattle.std.proofs.lemmas.Map.Lookups.{exact_pairs, exact_unsigned}
 use Rattle.std.proofs.lemmas.Option.{same_Some}
 use Rattle.hg_changeset.specs.Contents.{Contents}
 use Rattle.hg_phases.specs.State.{changesets}
+use Rattle.hg_history.specs.Change.{unheld}
 use Rattle.hg_replica.specs.State.{ReplicaState}
 use Rattle.hg_replica.specs.Least.{PartValue}
 use Rattle.hg_view.specs.Kept.{KeptValue}
@@ -80,7 +81,8 @@ grown_by : (old : Snapshot KeptValue) (event : PeerEvent) (answer : PeerAnswer) 
     (new : Snapshot KeptValue) → Happens peer_state peer_words old event answer part new → HaveGrown old new
 grown_by old event (Accepted change) None new h = absurd h
 grown_by old event (Accepted change) (Some part) new h =
-    one_grown old new (place_of event) h.0 h.1 h.2 (h.4.tells.0.history.new, h.4.tells.0.history.order) h.5
+    one_grown old new (place_of event) h.0 h.1 h.2
+    (unheld (changesets h.0.replica.history) part.history.changesets, h.4.tells.0.order) h.5
 grown_by old (Local at op) (Offered number) None new h = absurd h
 grown_by old (Take at m) (Offered number) None new h = absurd h
 grown_by old (Mark at m) (Offered number) None new h = absurd h

@@ -94,6 +94,13 @@ impl Fleet {
         }
     }
 
+    /// The peers, in their order.
+    pub fn peers(&self) -> &[Peer]
+        ensures { result.now ≡ self.now.nodes }
+    {
+        self.world.states()
+    }
+
     /// The replica of the peer at a place, counted from 0, with its instabilities and its pins.
     pub fn kept(&self, place: usize) -> Option<&Kept>
         ensures { option_copied result ≡ slice_get self.now.nodes place }

@@ -1,6 +1,6 @@
 //! The changesets in their order, with the places of their parents.
 ghost use Rattle.std.specs.Prelude.{Some, ◌⊎◌, ◌≡◌, ◌≢◌, ◌↔◌, ℕ, [], ◌∷◌, ◌++◌, ◌<◌, slice_get, take, length, Contains};
-ghost use Rattle.std.specs.Prelude.{IsTrue, IsNone, IfSome, IfOk, IfErr, OnOk, OnErr, IsErrOf, MatchOption};
+ghost use Rattle.std.specs.Prelude.{◌^◌, IsTrue, IsNone, IfSome, IfOk, IfErr, OnOk, OnErr, IsErrOf, MatchOption};
 ghost use Rattle.std.specs.Option.{option_copied};
 ghost use Rattle.std.specs.List.Sorted.{IsStrictlyIncreasing};
 ghost use Rattle.hg_changeset.specs.Node.{null_node};
@@ -99,12 +99,13 @@ impl Graph {
         *self.changesets.allocator()
     }
 
-    /// It says to proofs that this is a graph, and does nothing.
+    /// It says to proofs that this is a graph, whose places are numbers of 64 bits, and does nothing.
     #[inline(always)]
     pub fn is_valid(&self)
-        ensures { IsGraph self.now }
+        ensures graph { IsGraph self.now }
+        ensures places { length self.now < 2 ^ 64 }
     {
-        let _links = &self.links;
+        let _count = self.changesets.len();
     }
 
     /// How many changesets are held.

@@ -27,9 +27,7 @@ impl Graph {
         ensures memory { OnErr result ((n : Node) × Contains nodes.now n × Holds self.now n) }
     {
         let alloc = self.alloc();
-
-        // It bounds the places.
-        let _count = self.len();
+        self.is_valid();
         match self.span_of(nodes) {
             Some((first, last)) => {
                 let mut window = vec![in alloc; false; last - first + 1]?;

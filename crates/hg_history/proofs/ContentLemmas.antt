@@ -26,6 +26,7 @@ use Rattle.hg_history.specs.Content.{IsHeld, IsHeldAs, Leads, IsGrounded, IsVali
 use Rattle.hg_history.specs.Content.{ContentAdmits, IsContentCandidate, ContentAfter, IsListing, IsContentFault}
 use Rattle.hg_history.specs.Content.Leads.{itself, below}
 use Rattle.hg_history.specs.Content.IsGrounded.{grounded}
+use Rattle.hg_history.proofs.FaultLemmas.{same_fault}
 
 module _ (s : State) (graph : IsGraph (changesets s)) where
   pub content-changeset : (n : Node) (c : Contents) → Contains (changesets s) c → node_of c ≡ n
@@ -182,6 +183,14 @@ admits_from_content s k graph admitted = record {
 pub content-fault : (s : State) (k : PartValue) (fault : Fault) → IsGraph (changesets s)
     → IsFirstFault (changesets s) k fault → IsContentFault (content_of s) k fault
 content-fault s k fault graph h = (changesets s, content_listing s graph, h)
+
+pub fault_from_content : (s : State) (k : PartValue) (fault : Fault) → IsGraph (changesets s)
+    → IsContentFault (content_of s) k fault → IsFirstFault (changesets s) k fault
+fault_from_content s k fault graph (held, listing, is) =
+    same_fault held (changesets s) (λ c. (
+      λ at. (content_listing s graph c).1 ((listing c).0 at),
+      λ at. (listing c).1 ((content_listing s graph c).0 at),
+    )) k fault is
 
 -- the least state is the content after the part
 module _ (s t : State) (k : PartValue) (valid : IsValid s) (large : IsGraph (changesets t)) where

@@ -1,6 +1,6 @@
 -- The first fault of a part.
 use Rattle.std.proofs.Common.{◌≡◌, ◌≢◌, ℕ, Bool, true, false, List, ◌++◌, length, take, slice_get, Some, Contains, ◌⊎◌}
-use Rattle.std.proofs.Common.{inl, inr, refl, sym, ap, subst, ◌∙◌}
+use Rattle.std.proofs.Common.{◌↔◌, inl, inr, refl, sym, ap, subst, ◌∙◌}
 use Rattle.std.proofs.lemmas.Bool.{cases_order}
 use Rattle.std.proofs.lemmas.List.Elements.{Contains-append_left, Contains-append_right, Contains-append_cases}
 use Rattle.std.proofs.lemmas.Option.{same_Some, slice_get_within}
@@ -184,3 +184,71 @@ one_fault held k NullBound (UnknownBound m) h j =
 one_fault held k NullBound NullBound h j = refl
 one_fault held k NullBound NoMemory h j = absurd j
 one_fault held k NoMemory g h j = absurd h
+
+-- ---- a first fault is a matter of which changesets are held, in whatever order they are listed
+
+module _ (held other : List Contents) (same : (c : Contents) → Contains held c ↔ Contains other c) where
+  onward : (cs : List Contents) (c : Contents) → Contains (held ++ cs) c → Contains (other ++ cs) c
+  onward cs c at = elim (Contains-append_cases held cs c at) [
+    | inl x ↦ Contains-append_left other cs c ((same c).0 x)
+    | inr x ↦ Contains-append_right other cs c x
+  ]
+
+  back : (cs : List Contents) (c : Contents) → Contains (other ++ cs) c → Contains (held ++ cs) c
+  back cs c at = elim (Contains-append_cases other cs c at) [
+    | inl x ↦ Contains-append_left held cs c ((same c).1 x)
+    | inr x ↦ Contains-append_right held cs c x
+  ]
+
+  holds-onward : (cs : List Contents) (n : Node) → Holds (held ++ cs) n → Holds (other ++ cs) n
+  holds-onward cs = Holds-same (held ++ cs) (other ++ cs) (onward cs)
+
+  holds-back : (cs : List Contents) (n : Node) → Holds (other ++ cs) n → Holds (held ++ cs) n
+  holds-back cs = Holds-same (other ++ cs) (held ++ cs) (back cs)
+
+  fine-onward : (part : List Contents) (i : ℕ) → IsFineUpTo held part i → IsFineUpTo other part i
+  fine-onward part i fine j c less at =
+      let before = fine j c less at in (
+        λ p is. holds-onward (take j part) p (before.0 p is),
+        λ x. before.1 (x.0, back (take j part) x.0 x.1, x.2, x.3),
+      )
+
+  unheld-onward : (k : PartValue) (n : Node) → IsFirstUnheld (held ++ k.changesets) k.bounds n
+      → IsFirstUnheld (other ++ k.changesets) k.bounds n
+  unheld-onward k n first = record {
+    place = first.place;
+    bound = first.bound;
+    at = first.at;
+    before = λ j b less at. holds-onward k.changesets b.0 (first.before j b less at);
+    node = first.node;
+    unheld = λ x. first.unheld (holds-back k.changesets n x);
+  }
+
+  pub same_fault : (k : PartValue) (fault : Fault) → IsFirstFault held k fault → IsFirstFault other k fault
+  same_fault k (UnknownParent p) (i, c, at, fine, missing) =
+      let cs = take i k.changesets in (
+        i,
+        c,
+        at,
+        fine-onward k.changesets i fine,
+        (
+          missing.0,
+          λ x. missing.1 (holds-back cs p x),
+          λ ne known. holds-onward cs c.first (missing.2 ne known),
+        ),
+      )
+  same_fault k (Collision n) (i, c, at, fine, parents, collides, is) =
+      let cs = take i k.changesets in (
+        i,
+        c,
+        at,
+        fine-onward k.changesets i fine,
+        λ p parent. holds-onward cs p (parents p parent),
+        (collides.0, onward cs collides.0 collides.1, collides.2, collides.3),
+        is,
+      )
+  same_fault k (UnknownBound n) (fine, first, known) =
+      (fine-onward k.changesets (length k.changesets) fine, unheld-onward k n first, known)
+  same_fault k NullBound (fine, first) =
+      (fine-onward k.changesets (length k.changesets) fine, unheld-onward k null_node first)
+  same_fault k NoMemory h = h

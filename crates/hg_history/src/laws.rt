@@ -45,8 +45,8 @@ pub fn contents_say_what_histories_say()
     ensures covers { (s : State) (k : PartValue) → IsValid s → (Covers s k ↔ ContentCovers (content_of s) k) }
     ensures after { (s t : State) (k : PartValue) → IsValid s → IsValid t
         → ((IsAdmitted s k × IsLeast s (k ∷ []) t) ↔ ContentAfter (content_of s) k (content_of t)) }
-    ensures fault { (s : State) (k : PartValue) (fault : Fault) → IsValid s → IsFirstFault (changesets s) k fault
-        → IsContentFault (content_of s) k fault }
+    ensures fault { (s : State) (k : PartValue) (fault : Fault) → IsValid s
+        → (IsFirstFault (changesets s) k fault ↔ IsContentFault (content_of s) k fault) }
     ensures joined { (s o t : State) → IsValid s → IsValid o → IsValid t
         → (IsJoin s o t ↔ ContentsJoined (content_of s) (content_of o) (content_of t)) }
 {}

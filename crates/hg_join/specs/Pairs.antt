@@ -24,9 +24,10 @@ BothCover X Y c p = X c.0 p.0 × Y c.1 p.1
 abbrev pub BothAfter : {C D P Q : Type 0} → (C → P → C → Type 0) → (D → Q → D → Type 0) → C × D → P × Q → C × D → Type 0
 BothAfter X Y c p d = X c.0 p.0 d.0 × Y c.1 p.1 d.1
 
--- each half of the change tells of its half of the state
-abbrev pub BothTell : {A B E F : Type 0} → (A → E → A → Type 0) → (B → F → B → Type 0) → A × B → E × F → A × B → Type 0
-BothTell X Y old change new = X old.0 change.0 new.0 × Y old.1 change.1 new.1
+-- each half of the change tells what its half of the part made of its half of the state
+abbrev pub BothTell : {A B P Q E F : Type 0} → (A → P → E → A → Type 0) → (B → Q → F → B → Type 0) → A × B → P × Q →
+    E × F → A × B → Type 0
+BothTell X Y old part change new = X old.0 part.0 change.0 new.0 × Y old.1 part.1 change.1 new.1
 
 -- a fault of one half, or want of memory
 abbrev pub FaultOf : {F G : Type 0} → (F → Type 0) → (G → Type 0) → Type 0 → BothFault F G → Type 0

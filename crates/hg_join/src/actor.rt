@@ -121,7 +121,7 @@ pub trait Actor: JoinState {
     ) -> Result<Result<Self::Change, Self::Fault>, Self::Refusal>
         ensures taken { IfOk result (λ answer. (part : Self.Part) × Spells bytes.now part × MatchResult answer
             (λ change. Self.After (Self.content self.old) (Self.part_content part) (Self.content self.new)
-            × Self.Tells self.old change self.new)
+            × Self.Tells self.old part change self.new)
             (λ fault. (Self.IsFirstFault (Self.content self.old) (Self.part_content part) fault
             ⊎ Self.IsWantOfMemory fault) × (self.new ≡ self.old))) }
         ensures valid { IfOk result (λ answer. OnOk answer (Self.IsValid (Self.content self.old))) }
@@ -181,7 +181,8 @@ pub trait Actor: JoinState {
         IsAgainstMark s mark refusal → ⊥ };
 
     /// What is absorbed leaves what is the state's own.
-    ghost told_leaves_own: { (s t : Self) (change : Self.Change) → Self.Tells s change t → owned t ≡ owned s };
+    ghost told_leaves_own: { (s t : Self) (part : Self.Part) (change : Self.Change) → Self.Tells s part change t →
+        owned t ≡ owned s };
 
     /// Bytes spell one part.
     ghost spelled_once: { (bytes : List ℕ) (p q : Self.Part) → Spells bytes p → Spells bytes q →

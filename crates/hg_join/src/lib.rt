@@ -24,6 +24,8 @@
 //! 4. **What growing leaves.** `After` and `Joined` say it by a formula, not by the code and not as "the least":
 //!    `LowsAfter` takes the lower of what was there and of the lowest that the pairs give, and `LowsJoined` the
 //!    lower of both sides. The laws `absorbed` and `least` then say that this is the least.
+//!    `Tells` is of states: what the change says of what the part did, as the places of what came, and the order in
+//!    which the state keeps it. `LowMap` keeps no order, and its change says nothing.
 //! 5. **What is refused.** `Admits`, `IsFirstFault` and `Collides` say which parts and states can't be taken, and
 //!    why. `LowMap` takes all, so its `Admits` always holds and the other two never do.
 //! 6. **The laws.** Prove `ordered`, `stays_covered` and `absorbed` first: from these three, the lemmas

@@ -93,7 +93,7 @@ impl<K: Ord + Copy> JoinState for LowMap<K> {
     ghost IsFirstFault = { λ f p fault. ⊥ };
 
     // The change `()` tells nothing.
-    ghost Tells = { λ old change new. ⊤ };
+    ghost Tells = { λ old part change new. ⊤ };
 
     ghost IsWantOfMemory = { λ fault. ⊤ };
 

@@ -54,9 +54,9 @@ pub trait JoinState: Drop {
     /// What is first wrong with a part that the content can't take.
     ghost IsFirstFault: { Content → PartContent → Self.Fault → Type 0 };
 
-    /// The change says what became of the first state, which is now the second. It is of states and not of contents,
-    /// so it can speak of places.
-    ghost Tells: { Self → Self.Change → Self → Type 0 };
+    /// The change says what the part made of the first state, which is now the second. It is of states and not of
+    /// contents, so it can speak of places, and of the order in which a state keeps what a part brings.
+    ghost Tells: { Self → Self.Part → Self.Change → Self → Type 0 };
 
     /// The fault says no more than that memory ran out.
     ghost IsWantOfMemory: { Self.Fault → Type 0 };
@@ -69,7 +69,7 @@ pub trait JoinState: Drop {
     /// fault in it, and any part may be refused for want of memory; the state is then unchanged.
     fn absorb(&mut self, part: &Self::Part) -> Result<Self::Change, Self::Fault>
         ensures after { OnOk result (After (content self.old) (part_content part.now) (content self.new)) }
-        ensures change { IfOk result (λ change. Tells self.old change self.new) }
+        ensures change { IfOk result (λ change. Tells self.old part.now change self.new) }
         ensures valid { OnOk result (IsValid (content self.old)) }
 
         // What is refused is at fault, or memory ran out.
@@ -81,7 +81,7 @@ pub trait JoinState: Drop {
     /// keeps what its parts hold can move it in rather than copy it; by default it is absorbed and then dropped.
     fn absorb_owned(&mut self, part: Self::Part) -> Result<Self::Change, Self::Fault>
         ensures after { OnOk result (After (content self.old) (part_content part) (content self.new)) }
-        ensures change { IfOk result (λ change. Tells self.old change self.new) }
+        ensures change { IfOk result (λ change. Tells self.old part change self.new) }
         ensures valid { OnOk result (IsValid (content self.old)) }
         ensures fault { IfErr result (λ fault. IsFirstFault (content self.old) (part_content part) fault
             ⊎ IsWantOfMemory fault) }

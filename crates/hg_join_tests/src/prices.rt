@@ -122,7 +122,7 @@ impl JoinState for Prices {
 
     ghost IsFirstFault = { λ f quotes fault. ⊥ };
 
-    ghost Tells = { λ old change new. new.kept_back ≡ old.kept_back };
+    ghost Tells = { λ old part change new. new.kept_back ≡ old.kept_back };
 
     ghost IsWantOfMemory = { λ fault. ⊤ };
 
@@ -233,7 +233,7 @@ impl Actor for Prices {
 
     ghost marked_is_not_refused = { λ s t item refusal h k. h.0 k.0 };
 
-    ghost told_leaves_own = { λ s t change h. h };
+    ghost told_leaves_own = { λ s t part change h. h };
 
     ghost spelled_once = { spelled_tell };
 

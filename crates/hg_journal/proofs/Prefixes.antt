@@ -31,6 +31,10 @@ prefix_whole (x ∷ xs) (y ∷ ys) p le =
 pub prefix_length : {A : Type 0} (xs ys : List A) → IsPrefix xs ys → length xs ≤ length ys
 prefix_length xs ys p = omega (arith, sym (ap length p.1) ∙ length-append xs p.0)
 
+-- two that begin each other are one
+pub prefix_both : {A : Type 0} (xs ys : List A) → IsPrefix xs ys → IsPrefix ys xs → xs ≡ ys
+prefix_both xs ys p q = prefix_whole xs ys p (prefix_length ys xs q)
+
 -- of two in line the one that is no longer begins the other
 pub line_shorter : {A : Type 0} (xs ys : List A) → IsPrefix xs ys ⊎ IsPrefix ys xs → length xs ≤ length ys →
     IsPrefix xs ys

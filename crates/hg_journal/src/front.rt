@@ -57,12 +57,12 @@ impl<K: JournalName, E> Front<K, E> {
     }
 
     /// Whether the two are one beginning.
+    #[tactic(auto, using(crate::proofs::Prefixes::prefix_both))]
     pub fn is_same(&self, other: &Front<K, E>) -> bool
         ensures same { IsTrue result → self.now ≡ other.now }
         ensures exact { IsTrue result ↔ (length self.now ≡ length other.now) }
     {
-        let _within = self.begins(other);
-        self.count == other.count
+        self.begins(other) && other.begins(self)
     }
 
     /// The longer of two, which the other begins.

@@ -3,7 +3,7 @@ use Rattle.std.proofs.Common.{ℕ, List, [], ◌∷◌, Ok, refl, sym, subst}
 use Rattle.hg_replica.specs.State.{IsValid}
 use Rattle.hg_replica.specs.Answer.{AbsorbAnswer}
 use Rattle.hg_replica.specs.Least.{PartValue}
-use Rattle.hg_replica.proofs.ContentLemmas.{absorbed-content, told-change}
+use Rattle.hg_replica.proofs.ContentLemmas.{absorbed-content}
 use Rattle.hg_view.specs.Kept.{KeptValue}
 use Rattle.hg_rewrite.specs.declared.op.Op.{Op}
 use Rattle.hg_world.specs.declared.event.Event.TheVariants as event
@@ -23,7 +23,7 @@ absorbs : (s t : KeptValue) (k : PartValue) → IsValid s.replica → (h : IsNex
 unfolding AbsorbAnswer
 absorbs s t k valid h = record {
   after = absorbed-content s.replica t.replica k (Ok h.0.0) valid h.0.1;
-  tells = (told-change s.replica t.replica k (Ok h.0.0) h.0.1, h.1);
+  tells = (h.0.1, h.1);
 }
 
 pub decided_alone : (s t : KeptValue) (op : Op) (entry : Entry) → EntersLocal op s entry → IsNext s entry t →

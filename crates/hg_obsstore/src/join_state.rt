@@ -2,9 +2,9 @@
 //!
 //! What a store contains is the set of its markers, free of the order in which they came: for each marker, whether it
 //! is held. So two stores that are below each other have one content.
-ghost use Rattle.std.specs.Prelude.{⊤, ◌↔◌, IsTrue, IsOkAnd};
+ghost use Rattle.std.specs.Prelude.{⊤, ◌≡◌, ◌↔◌, IsTrue, IsOkAnd};
 ghost use Rattle.hg_marker.specs.Fields.{Fields};
-ghost use Rattle.hg_obsstore.specs.Growth.{holds, Grows};
+ghost use Rattle.hg_obsstore.specs.Growth.{holds, united, AreNewPlaces};
 ghost use Rattle.hg_obsstore.specs.Sets.{IsSet, IsWithin, HasAll, IsUnion, sets_ordered, stays_within, union_absorbed};
 ghost use Rattle.hg_obsstore.specs.Sets.{union_commutes, union_associates, union_idempotent, union_least, union_again};
 ghost use Rattle.hg_obsstore.specs.Sets.{union_swap};
@@ -52,7 +52,7 @@ impl JoinState for Store {
 
     ghost IsFirstFault = { λ f p fault. ⊥ };
 
-    ghost Tells = { λ old places new. Grows old places.items new };
+    ghost Tells = { λ old part places new. (new ≡ united old part.items) × AreNewPlaces old new places.items };
 
     ghost IsWantOfMemory = { λ fault. ⊤ };
 

@@ -164,6 +164,14 @@ impl Store {
         self.markers.get(place)
     }
 
+    /// It says to proofs that the format can spell each of its markers, and does nothing.
+    #[inline(always)]
+    pub fn is_valid(&self)
+        ensures { All IsMarker self.now }
+    {
+        let _markers = &self.markers;
+    }
+
     /// The markers, in the order in which they came.
     pub fn markers(&self) -> &[Marker]
         ensures markers { result.now ≡ self.now }

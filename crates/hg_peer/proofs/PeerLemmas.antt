@@ -13,7 +13,8 @@ use Rattle.hg_history.specs.Content.IsGrounded.{grounded}
 use Rattle.hg_history.proofs.ContentLemmas.{content-admits}
 use Rattle.hg_replica.specs.State.{ReplicaState, IsValid}
 use Rattle.hg_replica.specs.Least.{PartValue}
-use Rattle.hg_replica.specs.Change.{ChangeValue, TellsChange}
+use Rattle.hg_replica.specs.Change.{ChangeValue}
+use Rattle.hg_replica.specs.Answer.{IsAbsorbed}
 use Rattle.hg_replica.specs.Content.{content_of, IsValidContent, ContentBelow, ContentAdmits}
 use Rattle.hg_view.specs.declared.refusal.PinRefusal.{PinRefusal}
 use Rattle.hg_view.specs.declared.refusal.PinRefusal.TheVariants as pin
@@ -281,10 +282,10 @@ unpin-unchanged s t n pin.NoMemory e h = same_kept s t e h.1
 
 -- ---- what is absorbed and joined leaves the pins
 
-pub told-peer : (s t : KeptValue) {F : Type 0} (r : Result ChangeValue F) → t.pins ≡ s.pins →
-    IfOk r (λ change. TellsChange s.replica change t.replica) → IfOk r (λ change. Tells s change t)
-told-peer s t (Ok change) e h = (h, e)
-told-peer s t (Err x) e h = tt
+pub told-peer : (s t : KeptValue) (part : PartValue) {F : Type 0} (r : Result ChangeValue F) → t.pins ≡ s.pins →
+    IfOk r (λ change. IsAbsorbed s.replica part change t.replica) → IfOk r (λ change. Tells s part change t)
+told-peer s t part (Ok change) e h = (h, e)
+told-peer s t part (Err x) e h = tt
 
 pub unchanged-peer : (s t : KeptValue) {T F : Type 0} (r : Result T F) → t.pins ≡ s.pins →
     OnErr r (t.replica ≡ s.replica) → OnErr r (t ≡ s)

@@ -11,7 +11,7 @@ use Rattle.hg_replica.specs.Least.{PartValue}
 use Rattle.hg_replica.specs.Change.{ChangeValue}
 use Rattle.hg_replica.specs.Answer.{AbsorbAnswer, IsGrowthBeforeFault}
 use Rattle.hg_replica.specs.Content.{content_of, IsValidContent, ContentAfter, IsContentFault}
-use Rattle.hg_replica.proofs.ContentLemmas.{absorbed-content, refused-content, told-change, unchanged, content-valid}
+use Rattle.hg_replica.proofs.ContentLemmas.{absorbed-content, refused-content, absorbed-told, unchanged, content-valid}
 use Rattle.hg_view.specs.Kept.{KeptValue}
 use Rattle.hg_message.specs.declared.error.MessageFault.{MessageFault}
 use Rattle.hg_message.specs.Value.{MessageValue}
@@ -51,7 +51,7 @@ module _ (s t : KeptValue) (bytes : List ℕ) where
   pub take_taken : (r : Result (Result ChangeValue Fault) PeerRefusal) → IfOk r (λ answer. IsValid s.replica) →
       TakesBytes s bytes r t →
       IfOk r (λ answer. (part : PartValue) × SpellsPart bytes part × MatchResult answer
-      (λ change. ContentAfter (content_of s.replica) part (content_of t.replica) × Tells s change t)
+      (λ change. ContentAfter (content_of s.replica) part (content_of t.replica) × Tells s part change t)
       (λ cause. (IsContentFault (content_of s.replica) part cause ⊎ (cause ≡ fault.NoMemory)) × (t ≡ s)))
   take_taken (Ok (Ok change)) valid h =
       let part = message_part h.0 in (
@@ -59,7 +59,7 @@ module _ (s t : KeptValue) (bytes : List ℕ) where
         (h.0, h.1, refl),
         (
           absorbed-content s.replica t.replica part (Ok change) valid h.2,
-          told-peer s t {F = Fault} (Ok change) h.4 (told-change s.replica t.replica part (Ok change) h.2),
+          told-peer s t part {F = Fault} (Ok change) h.4 (absorbed-told s.replica t.replica part (Ok change) h.2),
         ),
       )
   take_taken (Ok (Err cause)) valid h =

@@ -8,6 +8,7 @@ use Rattle.hg_changeset.specs.declared.node.Node.{Node}
 use Rattle.hg_changeset.proofs.NodeLemmas.{same_node, node_eq_laws, node_cases}
 use Rattle.hg_changeset.proofs.ListLemmas.{Contains-none, Contains-first, Contains-later, Contains-cons_cases}
 use Rattle.hg_phases.specs.State.{Held}
+use Rattle.hg_replica.specs.Least.{PartValue}
 use Rattle.hg_replica.specs.Change.{ChangeValue}
 use Rattle.hg_replica.specs.Content.{content_of}
 use Rattle.hg_view.specs.Kept.{KeptValue}
@@ -68,8 +69,9 @@ marked_once s t next follow (Unpin n) e same h k =
       λ at. let was = (k.1.1 m).0 at in (h.1.1 m).1 ((pins m).1 was.0, was.1),
     ))
 
-pub told_leaves_own : (s t : KeptValue) (change : ChangeValue) → Tells s change t → own t ≡ own s
-told_leaves_own s t change h = ap is_pin h.1
+pub told_leaves_own : (s t : KeptValue) (part : PartValue) (change : ChangeValue) → Tells s part change t →
+    own t ≡ own s
+told_leaves_own s t part change h = ap is_pin h.1
 
 -- ---- a mark and a refusal exclude each other, and one of them is due
 

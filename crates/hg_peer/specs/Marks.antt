@@ -4,7 +4,9 @@ use Rattle.std.specs.List.{list_any}
 use Rattle.hg_changeset.specs.declared.node.Node.{Node}
 use Rattle.hg_changeset.specs.Node.{node_eq}
 use Rattle.hg_history.specs.Content.{IsHeld}
-use Rattle.hg_replica.specs.Change.{ChangeValue, TellsChange}
+use Rattle.hg_replica.specs.Least.{PartValue}
+use Rattle.hg_replica.specs.Change.{ChangeValue}
+use Rattle.hg_replica.specs.Answer.{IsAbsorbed}
 use Rattle.hg_replica.specs.Content.{content_of}
 use Rattle.hg_view.specs.Kept.{KeptValue}
 use Rattle.hg_view.specs.Pins.{PinAnswer, UnpinAnswer}
@@ -22,9 +24,9 @@ is_pin pins n = list_any (node_eq n) pins
 abbrev pub own : KeptValue → Node → Bool
 own s = is_pin s.pins
 
--- the change says what became of the replica, and the pins are as they were
-abbrev pub Tells : KeptValue → ChangeValue → KeptValue → Type 0
-Tells s change t = TellsChange s.replica change t.replica × (t.pins ≡ s.pins)
+-- the change says what the part made of the replica, and the pins are as they were
+abbrev pub Tells : KeptValue → PartValue → ChangeValue → KeptValue → Type 0
+Tells s part change t = IsAbsorbed s.replica part change t.replica × (t.pins ≡ s.pins)
 
 -- the replica is as it was, and the pins are those before with the one that is held, or without the one that was there
 abbrev pub Marks : KeptValue → Mark → KeptValue → Type 0

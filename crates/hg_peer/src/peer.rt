@@ -179,7 +179,7 @@ impl JoinState for Peer {
     fn absorb(&mut self, part: &Part) -> Result<Change, Fault>
         ensures after { OnOk result
             (ContentAfter (content_of self.old.replica) part.now (content_of self.new.replica)) }
-        ensures change { IfOk result (λ change. TellsPeer self.old change self.new) }
+        ensures change { IfOk result (λ change. TellsPeer self.old part.now change self.new) }
         ensures valid { OnOk result (IsValidContent (content_of self.old.replica)) }
         ensures fault { IfErr result (λ fault. IsContentFault (content_of self.old.replica) part.now fault
             ⊎ (fault ≡ Fault.NoMemory)) }
@@ -198,7 +198,7 @@ impl JoinState for Peer {
     fn absorb_owned(&mut self, part: Part) -> Result<Change, Fault>
         ensures after { OnOk result
             (ContentAfter (content_of self.old.replica) part (content_of self.new.replica)) }
-        ensures change { IfOk result (λ change. TellsPeer self.old change self.new) }
+        ensures change { IfOk result (λ change. TellsPeer self.old part change self.new) }
         ensures valid { OnOk result (IsValidContent (content_of self.old.replica)) }
         ensures fault { IfErr result (λ fault. IsContentFault (content_of self.old.replica) part fault
             ⊎ (fault ≡ Fault.NoMemory)) }
@@ -340,9 +340,8 @@ impl Actor for Peer {
         ensures memory { IsErrOf result OutOfMemory
             → OfferMayWantMemory self.now ask.now.common.items ask.now.scope }
     {
-        // They say to proofs that the replica is in a valid state, and that each of its markers can be written.
         let replica = self.kept.replica();
-        let _markers = replica.store().markers();
+        replica.store().is_valid();
         match Outgoing::above_kept(alloc, &self.kept, &ask.common, ask.scope) {
             Ok(found) => written(&found),
             Err(refusal) => Err(refusal.into()),
@@ -389,7 +388,7 @@ impl Actor for Peer {
     fn take(&mut self, alloc: Global, bytes: &[u8]) -> Result<Result<Change, Fault>, PeerRefusal>
         ensures taken { IfOk result (λ answer. (part : PartValue) × SpellsPart bytes.now part × MatchResult answer
             (λ change. ContentAfter (content_of self.old.replica) part (content_of self.new.replica)
-            × TellsPeer self.old change self.new)
+            × TellsPeer self.old part change self.new)
             (λ fault. (IsContentFault (content_of self.old.replica) part fault ⊎ (fault ≡ Fault.NoMemory))
             × (self.new ≡ self.old))) }
         ensures valid { IfOk result (λ answer. OnOk answer (IsValidContent (content_of self.old.replica))) }

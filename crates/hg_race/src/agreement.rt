@@ -1,118 +1,96 @@
 //! Peers in a ring that take what others hold, and agree.
-ghost use Rattle.std.specs.Prelude.{◌≡◌, ◌≢◌, ◌↔◌, ◌+◌, ◌*◌, ◌≤◌, length, IsTrue, IfOk, OnOk};
+ghost use Rattle.std.specs.Prelude.{◌≡◌, ◌↔◌, ◌<◌, ◌+◌, ◌*◌, ◌≤◌, length, IsTrue, IfOk, OnOk};
 ghost use Rattle.hg_replica.specs.Content.{content_of, ContentBelow};
+ghost use Rattle.hg_fleet.specs.Pulls.{answers_of};
 ghost use Rattle.hg_race.specs.Limits.{most_nodes};
 ghost use Rattle.hg_race.specs.Pairs.{Agree, AgreeWith, PairsAgree};
-ghost use Rattle.hg_race.specs.Ring.{IsWholeOffer, TakesOffer, PassesAlong, GoesRound, GoesRoundTwice};
+ghost use Rattle.hg_race.specs.Ring.{EndsRound, GoesRound, GoesRoundTwice, IsOfMemory, NoneIsOfMemory, RunsOn};
+ghost use Rattle.hg_race.specs.Ring.{Shares};
 
+use hg_fleet::{Fleet, PeerAnswer, Pulled};
 use hg_history::Fault;
-use hg_join::{Actor, JoinState, NoMemory};
-use hg_peer::{Ask, Peer, PeerRefusal, Scope};
-use std::alloc::Global;
+use hg_join::{JoinState, NoMemory};
+use hg_peer::{Peer, PeerRefusal};
+use hg_world::{Answer, EventRefusal};
 
-/// Lets peers in a ring take from each other, twice round, and tells how many pairs agree then: each holds what the
-/// other holds.
+/// Lets the peers of a fleet, as a ring, take from each other, twice round, and tells how many pairs agree then: each
+/// holds what the other holds.
 ///
 /// Each time round the second peer takes first, the whole offer of the first one; then each other takes that of the one
-/// before; and the first peer takes last, that of the last. What is refused is left out.
+/// before; and the first peer takes last, that of the last. What is refused is left out. All of that is a run of the
+/// fleet's world, so each offer stays among the messages.
 ///
 /// Refuses [`NoMemory`], and what was taken before stays.
-pub fn share_in_ring(alloc: Global, peers: &mut [Peer]) -> Result<u64, NoMemory>
-    requires { length peers.old ≤ most_nodes }
-    ensures taken { OnOk result (GoesRoundTwice peers.old peers.new) }
-    ensures count { IfOk result (PairsAgree peers.new) }
+pub fn share_in_ring(fleet: &mut Fleet) -> Result<u64, NoMemory>
+    requires { length fleet.old.nodes ≤ most_nodes }
+    ensures run { RunsOn fleet.old fleet.new }
+    ensures taken { OnOk result (GoesRoundTwice fleet.old.nodes fleet.new.nodes) }
+    ensures count { IfOk result (PairsAgree fleet.new.nodes) }
 {
-    go_round(alloc, peers)?;
-    go_round(alloc, peers)?;
-    Ok(agreeing(peers))
+    go_round(fleet)?;
+    go_round(fleet)?;
+    Ok(agreeing(fleet.peers()))
 }
 
 // Once round the ring.
-fn go_round(alloc: Global, peers: &mut [Peer]) -> Result<(), NoMemory>
-    ensures { OnOk result (GoesRound peers.old peers.new) }
+fn go_round(fleet: &mut Fleet) -> Result<(), NoMemory>
+    ensures run { RunsOn fleet.old fleet.new }
+    ensures round { OnOk result (GoesRound fleet.old.nodes fleet.new.nodes) }
 {
-    match peers.split_first_mut() {
-        Some((first, others)) => {
-            let offer = whole_offer(alloc, first)?;
-            let left = pass_along(alloc, offer, others)?;
-            take(alloc, first, left)
-        }
+    if fleet.peers().is_empty() {
+        return Ok(());
+    }
+    end_round(fleet, 1)
+}
+
+// Each peer from this place on takes the whole offer of the one before, and then the first one that of the last.
+fn end_round(fleet: &mut Fleet, taker: usize) -> Result<(), NoMemory>
+    requires some { 1 ≤ taker }
+    requires within { taker ≤ length fleet.old.nodes }
+    ensures run { RunsOn fleet.old fleet.new }
+    ensures round { OnOk result (EndsRound taker fleet.old.nodes fleet.new.nodes) }
+{
+    if taker == fleet.peers().len() {
+        share(fleet, 0, taker - 1)
+    } else {
+        share(fleet, taker, taker - 1)?;
+        end_round(fleet, taker + 1)
+    }
+}
+
+// The taker takes the whole offer of the giver. What one of them refuses is left out.
+fn share(fleet: &mut Fleet, taker: usize, giver: usize) -> Result<(), NoMemory>
+    requires taker { taker < length fleet.old.nodes }
+    requires giver { giver < length fleet.old.nodes }
+    ensures run { RunsOn fleet.old fleet.new }
+    ensures shared { OnOk result (Shares taker giver fleet.old.nodes fleet.new.nodes) }
+{
+    fleet.peers()[taker].replica().is_valid();
+    match fleet.share(taker, giver)? {
+        Some(shared) => check_shared(&shared),
+        None => unreachable!(),
+    }
+}
+
+// What was refused in a sharing is left out, but for want of memory.
+fn check_shared(shared: &Pulled) -> Result<(), NoMemory>
+    ensures { OnOk result (NoneIsOfMemory (answers_of shared.now)) }
+{
+    unless_memory(&shared.offered)?;
+    match &shared.taken {
+        Some(answer) => unless_memory(answer),
         None => Ok(()),
     }
 }
 
-// The first one takes the offer, and each other the whole offer of the one before. Hands out what the last one offers.
-fn pass_along(
-    alloc: Global,
-    offer: Option<Vec<u8>>,
-    peers: &mut [Peer],
-) -> Result<Option<Vec<u8>>, NoMemory>
-    ensures { IfOk result (PassesAlong offer peers.old peers.new) }
+// Any answer but want of memory.
+fn unless_memory(answer: &PeerAnswer) -> Result<(), NoMemory>
+    ensures { OnOk result (¬ (IsOfMemory answer.now)) }
 {
-    match peers.split_first_mut() {
-        Some((first, others)) => {
-            take(alloc, first, offer)?;
-            let next = whole_offer(alloc, first)?;
-            pass_along(alloc, next, others)
-        }
-        None => Ok(offer),
-    }
-}
-
-// An offer of all that a peer holds, unless it is refused.
-fn whole_offer(alloc: Global, peer: &Peer) -> Result<Option<Vec<u8>>, NoMemory>
-    ensures { IfOk result (IsWholeOffer peer.now) }
-{
-    let ask = Ask {
-        common: Vec::new(alloc),
-        scope: Scope::Whole,
-    };
-    match peer.offer(alloc, &ask) {
-        Ok(bytes) => Ok(Some(bytes)),
-        Err(refusal) => {
-            unless_memory(refusal)?;
-            Ok(None)
-        }
-    }
-}
-
-// Takes an offer in, unless it is refused.
-fn take(alloc: Global, peer: &mut Peer, offer: Option<Vec<u8>>) -> Result<(), NoMemory>
-    ensures { OnOk result (TakesOffer peer.old offer peer.new) }
-{
-    let Some(bytes) = offer else {
-        return Ok(());
-    };
-    match peer.take(alloc, &bytes) {
-        Ok(Ok(_)) => Ok(()),
-        Ok(Err(fault)) => unless_memory_of_part(fault),
-        Err(refusal) => unless_memory(refusal),
-    }
-}
-
-// What a peer refuses is left out, but for want of memory.
-fn unless_memory(refusal: PeerRefusal) -> Result<(), NoMemory>
-    ensures { OnOk result (refusal ≢ PeerRefusal.NoMemory) }
-{
-    match refusal {
-        PeerRefusal::Rewrite(_) => Ok(()),
-        PeerRefusal::Offer(_) => Ok(()),
-        PeerRefusal::Message(_) => Ok(()),
-        PeerRefusal::View(_) => Ok(()),
-        PeerRefusal::NoMemory => Err(NoMemory),
-    }
-}
-
-// The same of what is at fault with a part.
-fn unless_memory_of_part(fault: Fault) -> Result<(), NoMemory>
-    ensures { OnOk result (fault ≢ Fault.NoMemory) }
-{
-    match fault {
-        Fault::UnknownParent(_) => Ok(()),
-        Fault::Collision(_) => Ok(()),
-        Fault::UnknownBound(_) => Ok(()),
-        Fault::NullBound => Ok(()),
-        Fault::NoMemory => Err(NoMemory),
+    match answer {
+        Answer::Refused(EventRefusal::ByActor(PeerRefusal::NoMemory)) => Err(NoMemory),
+        Answer::Refused(EventRefusal::ByState(Fault::NoMemory)) => Err(NoMemory),
+        _ => Ok(()),
     }
 }
 

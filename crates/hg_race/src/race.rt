@@ -9,6 +9,7 @@ use crate::agreement::share_in_ring;
 use crate::racer::{Counts, Lane, Outcome, Racer, race_one};
 use crate::result::{RaceResult, print_result};
 use crate::seating::stations;
+use hg_fleet::Fleet;
 use hg_join::NoMemory;
 use hg_line::RunFault;
 use hg_peer::Peer;
@@ -123,8 +124,8 @@ fn count_agreeing(alloc: Global, outcomes: Vec<Outcome>) -> Result<u64, NoMemory
     requires { vec_len outcomes ≤ most_nodes }
     ensures { IfOk result (IsOfPairs (vec_len outcomes)) }
 {
-    let mut peers = peers_left(alloc, outcomes)?;
-    let count = share_in_ring(alloc, &mut peers)?;
+    let mut fleet = Fleet::of(alloc, peers_left(alloc, outcomes)?);
+    let count = share_in_ring(&mut fleet)?;
     Ok(count)
 }
 

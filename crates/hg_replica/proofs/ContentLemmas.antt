@@ -13,6 +13,7 @@ use Rattle.hg_history.proofs.ContentLemmas.{content-valid as history-valid, cont
 use Rattle.hg_history.proofs.ContentLemmas.{below_from_content as history_from_below, content-covers as history-covers}
 use Rattle.hg_history.proofs.ContentLemmas.{covers_from_content as history_from_covers, content-after as history-after}
 use Rattle.hg_history.proofs.ContentLemmas.{least_from_content as history_from_least, content-fault as history-fault}
+use Rattle.hg_history.proofs.ContentLemmas.{fault_from_content as history_from_fault}
 use Rattle.hg_history.proofs.JoinLemmas.{join-contents as history-join, join_from_content as history_from_join}
 use Rattle.hg_history.proofs.JoinLemmas.{collide-contents as history-collide}
 use Rattle.hg_obsstore.specs.Sets.{IsUnion}
@@ -20,7 +21,7 @@ use Rattle.hg_obsstore.specs.Growth.{holds, new_among}
 use Rattle.hg_replica.specs.State.{ReplicaState, IsValid, Below, IsSameState}
 use Rattle.hg_replica.specs.Least.{PartValue, Covers, IsAdmitted, IsMarkerOfOne, IsLeast}
 use Rattle.hg_replica.specs.Change.{ChangeValue, TellsChange}
-use Rattle.hg_replica.specs.Answer.{AbsorbAnswer, IsJoin, JoinAnswer}
+use Rattle.hg_replica.specs.Answer.{AbsorbAnswer, IsJoin, JoinAnswer, IsAbsorbed}
 use Rattle.hg_replica.specs.Content.{Content, content_of, IsValidContent, ContentBelow, ContentCovers, ContentAfter}
 use Rattle.hg_replica.specs.Content.{ContentsJoined, ContentsCollide, IsContentFault}
 use Rattle.hg_replica.proofs.MarkerLemmas.{within-sets, union-sets, same-sets}
@@ -105,6 +106,10 @@ pub content-fault : (s : ReplicaState) (k : PartValue) (fault : Fault) → IsVal
     IsFirstFault (changesets s.history) k.history fault → IsContentFault (content_of s) k fault
 content-fault s k fault valid h = history-fault s.history k.history fault valid.graph h
 
+pub fault_from_content : (s : ReplicaState) (k : PartValue) (fault : Fault) → IsValid s →
+    IsContentFault (content_of s) k fault → IsFirstFault (changesets s.history) k.history fault
+fault_from_content s k fault valid h = history_from_fault s.history k.history fault valid.graph h
+
 pub join-contents : (s o t : ReplicaState) → IsValid s → IsValid o → IsValid t → IsJoin s o t →
     ContentsJoined (content_of s) (content_of o) (content_of t)
 join-contents s o t u v w join = (
@@ -144,11 +149,17 @@ refused-content s t k (Err fault) valid h = by fault h.0
     by NullBound x = inl (content-fault s k NullBound valid x)
     by NoMemory x = inr refl
 
--- the change tells what became of the state
-pub told-change : (s t : ReplicaState) (k : PartValue) (r : Result ChangeValue Fault) → AbsorbAnswer s k r t →
-    IfOk r (λ change. TellsChange s change t)
+-- the answer tells what was absorbed
+pub absorbed-told : (s t : ReplicaState) (k : PartValue) (r : Result ChangeValue Fault) → AbsorbAnswer s k r t →
+    IfOk r (λ change. IsAbsorbed s k change t)
 unfolding AbsorbAnswer
-told-change s t k (Ok change) h = record {
+absorbed-told s t k (Ok change) h = h
+absorbed-told s t k (Err fault) h = tt
+
+-- and what became of the state, whatever the part was
+pub told-change : (s t : ReplicaState) (k : PartValue) (change : ChangeValue) → IsAbsorbed s k change t →
+    TellsChange s change t
+told-change s t k change h = record {
   history =
       record {
         new = unheld (changesets s.history) k.history.changesets;
@@ -158,7 +169,6 @@ told-change s t k (Ok change) h = record {
       };
   markers = record { first = (new_among s.markers k.markers, h.marker_order); places = h.markers };
 }
-told-change s t k (Err fault) h = tt
 
 pub unchanged : (s t : ReplicaState) (k : PartValue) (r : Result ChangeValue Fault) → AbsorbAnswer s k r t →
     OnErr r (t ≡ s)

@@ -5,7 +5,8 @@ use Rattle.hg_history.specs.declared.fault.Fault.{Fault}
 use Rattle.hg_history.specs.declared.fault.Fault.TheVariants.{NoMemory}
 use Rattle.hg_replica.specs.State.{ReplicaState}
 use Rattle.hg_replica.specs.Least.{PartValue}
-use Rattle.hg_replica.specs.Change.{ChangeValue, TellsChange}
+use Rattle.hg_replica.specs.Answer.{IsAbsorbed}
+use Rattle.hg_replica.specs.Change.{ChangeValue}
 use Rattle.hg_replica.specs.Content.{Content, content_of, IsValidContent, ContentBelow, ContentsJoined, ContentsCollide}
 use Rattle.hg_replica.specs.Content.{ContentCovers, ContentAdmits, ContentAfter, IsContentFault}
 
@@ -25,6 +26,6 @@ replica_words = record {
   Admits = ContentAdmits;
   After = ContentAfter;
   IsFirstFault = IsContentFault;
-  Tells = TellsChange;
+  Tells = IsAbsorbed;
   IsWantOfMemory = λ fault. fault ≡ NoMemory;
 }

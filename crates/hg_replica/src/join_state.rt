@@ -4,8 +4,7 @@
 //! is held, and for each marker whether it is held. So two replicas that are below each other have one content, in
 //! whatever order each keeps it. Each law is that of histories beside that of sets.
 ghost use Rattle.std.specs.Prelude.{◌≡◌, ◌↔◌, ◌⊎◌, IsTrue, IsOkAnd, IfOk, IfErr, OnOk, OnErr, IsErrOf};
-ghost use Rattle.hg_replica.specs.Answer.{IsGrowthBeforeFault};
-ghost use Rattle.hg_replica.specs.Change.{TellsChange};
+ghost use Rattle.hg_replica.specs.Answer.{IsAbsorbed, IsGrowthBeforeFault};
 ghost use Rattle.hg_replica.specs.Content.{content_of, IsValidContent, ContentBelow, ContentsJoined, ContentsCollide};
 ghost use Rattle.hg_replica.specs.Content.{ContentAfter, IsContentFault};
 ghost use Rattle.hg_replica.specs.ContentLaws.{replicas_ordered, replicas_stay_covered, replicas_absorbed};
@@ -95,7 +94,7 @@ impl JoinState for Replica {
 
     fn absorb(&mut self, part: &Part) -> Result<Change, Fault>
         ensures after { OnOk result (ContentAfter (content_of self.old) part.now (content_of self.new)) }
-        ensures change { IfOk result (λ change. TellsChange self.old change self.new) }
+        ensures change { IfOk result (λ change. IsAbsorbed self.old part.now change self.new) }
         ensures valid { OnOk result (IsValidContent (content_of self.old)) }
         ensures fault { IfErr result (λ fault. IsContentFault (content_of self.old) part.now fault
             ⊎ (fault ≡ Fault.NoMemory)) }
@@ -109,7 +108,7 @@ impl JoinState for Replica {
 
     fn absorb_owned(&mut self, part: Part) -> Result<Change, Fault>
         ensures after { OnOk result (ContentAfter (content_of self.old) part (content_of self.new)) }
-        ensures change { IfOk result (λ change. TellsChange self.old change self.new) }
+        ensures change { IfOk result (λ change. IsAbsorbed self.old part change self.new) }
         ensures valid { OnOk result (IsValidContent (content_of self.old)) }
         ensures fault { IfErr result (λ fault. IsContentFault (content_of self.old) part fault
             ⊎ (fault ≡ Fault.NoMemory)) }

@@ -101,7 +101,7 @@ pub fn contents_say_what_states_say()
     ensures after { (s t : ReplicaState) (k : PartValue) → IsValid s → IsValid t →
         ((IsAdmitted s k × IsLeast s (k ∷ []) t) ↔ ContentAfter (content_of s) k (content_of t)) }
     ensures fault { (s : ReplicaState) (k : PartValue) (fault : Fault) → IsValid s →
-        IsFirstFault (changesets s.history) k.history fault → IsContentFault (content_of s) k fault }
+        (IsFirstFault (changesets s.history) k.history fault ↔ IsContentFault (content_of s) k fault) }
     ensures joined { (s o t : ReplicaState) → IsValid s → IsValid o → IsValid t →
         (IsJoin s o t ↔ ContentsJoined (content_of s) (content_of o) (content_of t)) }
 {}

@@ -121,7 +121,7 @@ module _ (s : ReplicaState) (k : PartValue) (t after : ReplicaState) (sets sets_
     changed change answer = record {
       valid = valid;
       above = least-above s (k ∷ []) t answer.least;
-      told = told-change s t k (Ok change) answer;
+      told = told-change s t k change answer;
     }
 
     -- the sets are those of the replica then, and it is valid
@@ -158,7 +158,7 @@ module _ (s : ReplicaState) (k : PartValue) (t : ReplicaState) (heads : HeadPlac
     record {
       valid = valid;
       above = least-above s (k ∷ []) t answer.least;
-      told = told-change s t k (Ok absorbed.change) answer;
+      told = told-change s t k absorbed.change answer;
     },
     are,
   )

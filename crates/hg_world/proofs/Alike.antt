@@ -48,7 +48,7 @@ module _ {S O A M R P C F : Type 0} (J : StateWords S P C F) (W : ActorWords S O
     (marked : (s t : S) (mark : M) → W.Marks s mark t → J.content t ≡ J.content s)
     (marked_once : (s t next follow : S) (mark : M) → J.content s ≡ J.content t → W.owned s ≡ W.owned t →
     W.Marks s mark next → W.Marks t mark follow → W.owned next ≡ W.owned follow)
-    (told_leaves_own : (s t : S) (change : C) → J.Tells s change t → W.owned t ≡ W.owned s) where
+    (told_leaves_own : (s t : S) (part : P) (change : C) → J.Tells s part change t → W.owned t ≡ W.owned s) where
   -- parts that say the same leave one content
   one_after : (a b c : J.Content) (p q : J.PartContent) → J.IsValid a → SaySame J.IsValid J.Covers p q → J.After a p b →
       J.After a q c → b ≡ c
@@ -155,7 +155,7 @@ module _ {S O A M R P C F : Type 0} (J : StateWords S P C F) (W : ActorWords S O
       one_after (J.content h.0) (J.content h.1) (J.content k.1) (J.part_content p) (J.part_content q) valid same
       h.4.after after in
       let still : W.owned h.1 ≡ W.owned k.1 =
-      told_leaves_own h.0 h.1 change h.4.tells ∙ own ∙ sym (told_leaves_own k.0 k.1 change k.4.tells) in
+      told_leaves_own h.0 h.1 p change h.4.tells ∙ own ∙ sym (told_leaves_own k.0 k.1 q change k.4.tells) in
       let nodes = exchanged_alike old first mid last place h.0 h.1 k.0 k.1 a h.2 k.2 one still h.5 k.5 in
       (nodes.0, nodes.1, messages_alike old first mid last a h.6 k.6)
   alike_after old first mid last event (Offered number) (Some part) other v a h k = absurd h

@@ -45,7 +45,7 @@ module _ {S O A M R P C F : Type 0} (J : StateWords S P C F) (W : ActorWords S O
       )
 
 module _ {S O A M R P C F : Type 0} (J : StateWords S P C F) (W : ActorWords S O A M R P C F)
-    (told_leaves_own : (s t : S) (change : C) → J.Tells s change t → W.owned t ≡ W.owned s) where
+    (told_leaves_own : (s t : S) (part : P) (change : C) → J.Tells s part change t → W.owned t ≡ W.owned s) where
   own_itself : (old : Snapshot S) → HaveSameOwn J W old old
   own_itself old place a b at_a at_b = ap W.owned (one_at old.nodes place a b at_a at_b)
 
@@ -53,7 +53,7 @@ module _ {S O A M R P C F : Type 0} (J : StateWords S P C F) (W : ActorWords S O
       Accepts J W old event change part new → HaveSameOwn J W new old
   accepting_leaves_own old new event change part h =
       changed_same W.owned old.nodes new.nodes (place_of event) h.0 h.1 h.2
-      (told_leaves_own h.0 h.1 change h.4.tells) h.5
+      (told_leaves_own h.0 h.1 part change h.4.tells) h.5
 
   pub others_leave_own : OthersLeaveOwn J W
   others_leave_own old new event (Accepted change) None n h = absurd h

@@ -32,7 +32,7 @@ module _ {S P C F : Type 0} (J : StateWords S P C F) where
   pub absorbed_there : (nodes : List S) (at : ℕ) (node next : S) (part : P) (r : Result C F) →
       slice_get nodes at ≡ Some node →
       OnOk r (J.After (J.content node) (J.part_content part) (J.content next)) →
-      IfOk r (λ change. J.Tells node change next) →
+      IfOk r (λ change. J.Tells node part change next) →
       IfErr r (λ fault. J.IsFirstFault (J.content node) (J.part_content part) fault ⊎ J.IsWantOfMemory fault) →
       OnErr r (next ≡ node) →
       (x : S) × (slice_get nodes at ≡ Some x)
@@ -57,7 +57,7 @@ module _ {S O A M R P C F : Type 0} (J : StateWords S P C F) (W : ActorWords S O
   pub taken_there : (nodes : List S) (at : ℕ) (node next : S) (bytes : List ℕ) (r : Result (Result C F) R) →
       slice_get nodes at ≡ Some node →
       IfOk r (λ answer. (part : P) × W.Spells bytes part × MatchResult answer
-      (λ change. J.After (J.content node) (J.part_content part) (J.content next) × J.Tells node change next)
+      (λ change. J.After (J.content node) (J.part_content part) (J.content next) × J.Tells node part change next)
       (λ fault. (J.IsFirstFault (J.content node) (J.part_content part) fault ⊎ J.IsWantOfMemory fault)
       × (next ≡ node))) →
       IfErr r (λ refusal. W.IsAgainstBytes bytes refusal ⊎ W.IsRefusalOfMemory refusal) →

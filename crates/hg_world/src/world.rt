@@ -161,6 +161,13 @@ impl<S: Actor> World<S> {
         mark_at(self.nodes.as_mut_slice(), at, mark)
     }
 
+    /// The states of the nodes, in their order.
+    pub fn states(&self) -> &[S]
+        ensures { result.now ≡ self.now.nodes }
+    {
+        self.nodes.as_slice()
+    }
+
     /// The state of a node, if there is one at the place, counted from 0.
     pub fn state(&self, at: usize) -> Option<&S>
         ensures { option_copied result ≡ slice_get self.now.nodes at }

@@ -11,6 +11,6 @@ returns-in-Some c j =
     let is : c.in-Some.held ≡ c.args.node =
     same_node c.in-Some.held c.args.node (sym c.eq.ensures ∙ c.if-eq.true) in
     let here : IsAt cs c.args.node c.args.guess = sym c.node_at.ensures ∙ c.in-Some.is ∙ ap (λ n. Some n) is in (
-      λ at. same_place (nodes cs) c.args.node c.args.guess j c.is_valid.ensures.distinct here at,
+      λ at. same_place (nodes cs) c.args.node c.args.guess j c.is_valid.ensures.graph.distinct here at,
       λ e. subst (IsAt cs c.args.node) (sym e) here,
     )

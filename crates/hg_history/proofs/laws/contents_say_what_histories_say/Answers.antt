@@ -1,6 +1,7 @@
 use Rattle.hg_phases.proofs.ContentLemmas.{content-same, same_from_content}
 use Rattle.hg_history.proofs.ContentLemmas.{content-valid, content-below, below_from_content, content-covers}
 use Rattle.hg_history.proofs.ContentLemmas.{covers_from_content, content-after, least_from_content, content-fault}
+use Rattle.hg_history.proofs.ContentLemmas.{fault_from_content}
 use Rattle.hg_history.proofs.JoinLemmas.{join-contents, join_from_content}
 use Rattle.hg_history.proofs.laws.contents_say_what_histories_say.Goals as goal
 
@@ -20,7 +21,7 @@ pub returns-clause-after : goal.returns-clause-after
 returns-clause-after c s t k v w = (λ h. content-after s t k v w.graph h.1 h.0, least_from_content s t k v w.graph)
 
 pub returns-clause-fault : goal.returns-clause-fault
-returns-clause-fault c s k fault v h = content-fault s k fault v.graph h
+returns-clause-fault c s k fault v = (content-fault s k fault v.graph, fault_from_content s k fault v.graph)
 
 pub returns-clause-joined : goal.returns-clause-joined
 returns-clause-joined c s o t u v w =

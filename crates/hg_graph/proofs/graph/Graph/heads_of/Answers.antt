@@ -18,7 +18,7 @@ overflow_add-last c =
     omega (
       arith,
       one_within c.args.self.now c.args.nodes.now c.in-Some.last c.in-Some.ensures.1,
-      c.len-count.ensures.len,
+      c.is_valid.ensures.places,
     )
 
 pub overflow_add-last-in-Some : goal.overflow_add-last-in-Some
@@ -26,7 +26,7 @@ overflow_add-last-in-Some c =
     omega (
       arith,
       one_within c.args.self.now c.args.nodes.now c.in-Some.last c.in-Some.ensures.1,
-      c.len-count.ensures.len,
+      c.is_valid.ensures.places,
     )
 
 pub returns-in_err-window-in-Some-clause-memory : goal.returns-in_err-window-in-Some-clause-memory

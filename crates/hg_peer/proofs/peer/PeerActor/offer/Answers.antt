@@ -19,7 +19,7 @@ returns-in-Ok-clause-due c =
     rw (← c.self.view_is) (answered-due c.self.inside.kept c.args.ask.now c.deref.result.now c.above_kept.result
     c.deref.ensures.value c.replica-replica.ensures.valid
     (subst (All IsMarker) (c.store.ensures ∙ ap (λ (t : ReplicaState). t.markers) c.replica-replica.ensures.replica)
-    c.markers-markers.ensures.each) c.above_kept.ensures)
+    c.is_valid.ensures) c.above_kept.ensures)
 
 pub returns-in-Ok-clause-memory : goal.returns-in-Ok-clause-memory
 returns-in-Ok-clause-memory c =
@@ -36,7 +36,7 @@ returns-in-Err-clause-due c =
     rw (← c.self.view_is) (answered-due c.self.inside.kept c.args.ask.now c.deref.result.now c.above_kept.result
     c.deref.ensures.value c.replica-replica.ensures.valid
     (subst (All IsMarker) (c.store.ensures ∙ ap (λ (t : ReplicaState). t.markers) c.replica-replica.ensures.replica)
-    c.markers-markers.ensures.each) c.above_kept.ensures)
+    c.is_valid.ensures) c.above_kept.ensures)
 
 pub returns-in-Err-clause-memory : goal.returns-in-Err-clause-memory
 returns-in-Err-clause-memory c =

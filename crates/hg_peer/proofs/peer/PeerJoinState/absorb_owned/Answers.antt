@@ -1,6 +1,6 @@
 use Rattle.hg_history.proofs.ContentLemmas.{whatever_answer}
 use Rattle.hg_replica.specs.Content.{content_of, IsValidContent}
-use Rattle.hg_replica.proofs.ContentLemmas.{absorbed-content, refused-content, told-change, unchanged, content-valid}
+use Rattle.hg_replica.proofs.ContentLemmas.{absorbed-content, refused-content, absorbed-told, unchanged, content-valid}
 use Rattle.hg_peer.proofs.PeerLemmas.{told-peer, unchanged-peer}
 use Rattle.hg_peer.proofs.peer.PeerJoinState.absorb_owned.Goals as goal
 
@@ -11,9 +11,9 @@ returns-clause-after c =
 
 pub returns-clause-change : goal.returns-clause-change
 returns-clause-change c =
-    rw (← c.self.view_is) (told-peer c.self.inside.kept c.absorb_owned.new.self c.absorb_owned.result
-    c.absorb_owned.ensures.pins
-    (told-change c.self.inside.kept.replica c.absorb_owned.new.self.replica c.args.part c.absorb_owned.result
+    rw (← c.self.view_is) (told-peer c.self.inside.kept c.absorb_owned.new.self c.args.part
+    c.absorb_owned.result c.absorb_owned.ensures.pins
+    (absorbed-told c.self.inside.kept.replica c.absorb_owned.new.self.replica c.args.part c.absorb_owned.result
     c.absorb_owned.ensures.answer))
 
 pub returns-clause-valid : goal.returns-clause-valid

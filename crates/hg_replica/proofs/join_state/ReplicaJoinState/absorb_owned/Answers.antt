@@ -1,6 +1,6 @@
 use Rattle.hg_history.proofs.ContentLemmas.{whatever_answer}
 use Rattle.hg_replica.specs.Content.{content_of, IsValidContent}
-use Rattle.hg_replica.proofs.ContentLemmas.{absorbed-content, refused-content, told-change, unchanged, content-valid}
+use Rattle.hg_replica.proofs.ContentLemmas.{absorbed-content, refused-content, absorbed-told, unchanged, content-valid}
 use Rattle.hg_replica.proofs.join_state.ReplicaJoinState.absorb_owned.Goals as goal
 
 pub returns-clause-after : goal.returns-clause-after
@@ -10,7 +10,8 @@ returns-clause-after c =
 
 pub returns-clause-change : goal.returns-clause-change
 returns-clause-change c =
-    told-change c.args.self.now c.absorb_owned.new.self c.args.part c.absorb_owned.result c.absorb_owned.ensures.answer
+    absorbed-told c.args.self.now c.absorb_owned.new.self c.args.part c.absorb_owned.result
+    c.absorb_owned.ensures.answer
 
 pub returns-clause-valid : goal.returns-clause-valid
 returns-clause-valid c =
