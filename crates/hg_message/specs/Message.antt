@@ -26,7 +26,7 @@ told_in start (Err (store.BadVersion v)) = Err (BadMarker start (store.BadVersio
 told_in start (Err (store.Bad p cause)) = Err (BadMarker (start + p) (store.Bad p cause))
 
 -- the store in so many bytes from this place on
-unfoldable pub store_in : ℕ → ℕ → Reader MessageFault (List Fields)
+abbrev pub store_in : ℕ → ℕ → Reader MessageFault (List Fields)
 store_in len start = do
   bytes ← field (Truncated start) len
   markers ← yields (told_in start (store_at bytes))

@@ -52,7 +52,7 @@ pub(crate) struct Layout<'a> {
 
 /// The parts of the message, of whose records those of changesets that are held are spared their hash. It takes no
 /// memory.
-#[tactic(auto, using(crate::proofs::LayoutLemmas::ends_alike), unfolding(crate::specs::Message::parts_at, crate::specs::Message::store_in))]
+#[tactic(auto, using(crate::proofs::LayoutLemmas::ends_alike), unfolding(crate::specs::Message::parts_at))]
 pub(crate) fn split_message<'a>(
     held: Option<&Replica>,
     bytes: &'a [u8],
