@@ -1,12 +1,12 @@
 -- What an argument and a command are to the parser, after calls of their builders.
-use Rattle.std.proofs.Common.{Bool, Bor, Option, Some, ap, ap₂, true, ◌≡◌, ◌∙◌, ◌||◌}
+use Rattle.std.proofs.Common.{Bool, Bor, Option, Some, ap, true, ◌≡◌, ◌∙◌}
 use Rattle.clap.specs.declared.builder.command.Command.TheOpen.{Command-F}
-use Rattle.clap.specs.Words.{AddsArg, AddsSubcommand, App, Rule, Shape, Text, rule_of, with_rule, with_subcommand}
+use Rattle.clap.specs.Words.{Rule, Text, rule_of}
 use Rattle.clap.specs.declared.builder.range.ValueRange.{ValueRange}
 use Rattle.clap.specs.declared.builder.value_parser.ValueParser.{ValueParser}
 use Rattle.clap.specs.declared.builder.arg.Arg.{Arg}
 use Rattle.clap.specs.declared.builder.command.Command.{Command}
-use Rattle.hgfleet.specs.Builders.{IsArgument, IsCommand, IsProgram}
+use Rattle.hgfleet.specs.Builders.{IsArgument}
 
 abbrev pub is_global : Arg → Bool
 is_global a = a.global
@@ -19,24 +19,6 @@ wanted r = record r { required = true }
 
 abbrev pub has_globals : Command-F Command → Bool
 has_globals c = c.has_globals
-
-abbrev pub either : Bool → Bool → Bool
-either a b = a || b
-
-abbrev pub top_of : App → Shape
-top_of a = a.top
-
--- a command to which an argument was added
-pub with_it : (base made : Command) (argument : Arg) (app : App) (rule : Rule) → AddsArg base argument made
-    → IsCommand app base → IsArgument rule argument → IsCommand (with_rule app rule) made
-with_it base made argument app rule adds is_app is_rule =
-    (adds.shape is_rule.1 ∙ ap₂ with_rule is_app.0 is_rule.0, adds.globals ∙ ap₂ either is_app.1 is_rule.1)
-
--- a program to which a command was added
-pub joined : (base made further : Command) (before app : App) → AddsSubcommand base further made
-    → IsProgram before base → IsCommand app further → IsProgram (with_subcommand before app.top) made
-joined base made further before app adds is_before is_app =
-    adds.shape is_app.1 ∙ ap₂ with_subcommand is_before (ap top_of is_app.0)
 
 -- an argument that has a long name too, one that must be given, one whose values another parser takes, and one that
 -- takes so many values

@@ -8,5 +8,4 @@ mod FileLemmas
 mod FlushLemmas
 mod NumberLemmas
 mod OptionLemmas
-mod PlaceLemmas
 mod TryingLemmas

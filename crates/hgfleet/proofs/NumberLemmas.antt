@@ -5,7 +5,7 @@ use Rattle.std.specs.Prelude.{is_some, option_and_then, unwrap_or}
 use Rattle.std.specs.Str.{bytes_eq}
 use Rattle.std.specs.Str.Parse.{ParsesUnsigned, digits_value, without_leading_plus}
 use Rattle.clap.specs.Words.{IsUnsignedIn, ReadsOne, Row, Text, found_of}
-use Rattle.clap.specs.Words.{one_of, one_text, rows_of, subcommand_of}
+use Rattle.clap.specs.Words.{one_of, one_text, rows_of}
 use Rattle.clap.specs.ValueTests.{is_unsigned_in}
 use Rattle.clap.specs.declared.builder.value_parser.ValueParser.TheVariants.{Unsigned}
 use Rattle.clap.specs.declared.parser.matches.ArgMatches.{ArgMatches}
@@ -13,7 +13,7 @@ use Rattle.clap.proofs.ValueTestLemmas.{Accepts-accepts, accepts-Accepts}
 use Rattle.clap.proofs.WalkLemmas.{one_text-rows}
 use Rattle.hg_race.specs.Limits.{least_nodes, most_nodes, most_rounds}
 use Rattle.hgfleet.specs.Arguments.{IsRaceSize, both_numbers, number_given, number_within, numbers_given}
-use Rattle.hgfleet.specs.Arguments.{program, race_met, race_numbers}
+use Rattle.hgfleet.specs.Arguments.{race_met}
 
 -- what is given is something
 some_is_given : {X : Type 0} (x : X) → None ≡ Some x → ⊥
@@ -115,8 +115,3 @@ size_met (Some met) n r h = go (bytes_eq met.0 (codes "race")) h
     go : (b : Bool) → cond b (numbers_given met.1) None ≡ Some (n, r) → IsRaceSize n r
     go true e = size_given met.1 n r e
     go false e = absurd (some_is_given (n, r) e)
-
--- the numbers that words give for a race are those of a race
-pub race_size : (words : List Text) (n r : ℕ) → race_numbers words ≡ Some (n, r) → IsRaceSize n r
-unfolding race_numbers
-race_size words n r h = size_met (subcommand_of program words) n r h

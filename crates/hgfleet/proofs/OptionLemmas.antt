@@ -1,6 +1,6 @@
 -- What the command that was met asks for.
 use Rattle.std.proofs.Common.{◌≡◌, ◌∙◌, List, Bool, true, false, refl, sym, ap, subst, codes, true≢false}
-use Rattle.std.proofs.Common.{Option, Some, None, map}
+use Rattle.std.proofs.Common.{Option, Some, None}
 use Rattle.std.specs.Prelude.{unwrap_or}
 use Rattle.std.specs.Option.{option_map_or}
 use Rattle.std.specs.Str.{bytes_eq}
@@ -11,8 +11,7 @@ use Rattle.clap.specs.Words.{rows_of, subcommand_of, subcommand_rows_of}
 use Rattle.clap.specs.declared.parser.matches.ArgMatches.{ArgMatches}
 use Rattle.clap.proofs.OnLiterals.{clap_on_literals}
 use Rattle.clap.proofs.WalkLemmas.{one_text-rows}
-use Rattle.hgfleet.proofs.PlaceLemmas.{met_alike_at}
-use Rattle.hgfleet.specs.Arguments.{MeetsWanted, NamesForms, Words, form_words, program, program_at, reference}
+use Rattle.hgfleet.specs.Arguments.{MeetsWanted, Words, command_met, program_at}
 use Rattle.hgfleet.specs.TryArguments.{flag_given}
 use Rattle.hgfleet.specs.declared.arguments.Wanted.{Wanted}
 
@@ -21,18 +20,17 @@ unfolding clap_on_literals
 program_is_simple forms = refl
 
 -- the command that a parse met is the one that the words name
-pub met_at : (a : App) (words : List Text) (m : ArgMatches) (forms : Words) → NamesForms forms → a ≡ program_at forms
-    → HasMatchesOf a words m → subcommand_rows_of m ≡ subcommand_of program words
-met_at a words m forms named e has =
+met_at : (a : App) (words : List Text) (m : ArgMatches) (forms : Words) → a ≡ program_at forms
+    → HasMatchesOf a words m → subcommand_rows_of m ≡ command_met forms words
+unfolding command_met
+met_at a words m forms e has =
     (has (ap is_simple e ∙ program_is_simple forms)).1 ∙ ap (λ (b : App). subcommand_of b words) e
-    ∙ met_alike_at forms (reference (map reference form_words)) named refl words
 
 pub wanted_at : (a : App) (words : List Text) (m : ArgMatches) (forms : Words) (wanted : Option Wanted)
-    → NamesForms forms
     → a ≡ program_at forms → HasMatchesOf a words m → MeetsWanted (subcommand_rows_of m) wanted
-    → MeetsWanted (subcommand_of program words) wanted
-wanted_at a words m forms wanted named e has meets =
-    subst (λ (met : Option (Text × List Row)). MeetsWanted met wanted) (met_at a words m forms named e has) meets
+    → MeetsWanted (command_met forms words) wanted
+wanted_at a words m forms wanted e has meets =
+    subst (λ (met : Option (Text × List Row)). MeetsWanted met wanted) (met_at a words m forms e has) meets
 
 text_true : (t : Text) → t ≡ codes "true" → bytes_eq t (codes "true") ≡ true
 text_true t e = (bytes_eq-Decides t (codes "true")).1 e

@@ -1,5 +1,5 @@
 -- What a trial of files is, and why trials and comparisons end early.
-use Rattle.std.proofs.Common.{◌≡◌, ◌<◌, ◌∙◌, ℕ, List, Option, String, ap, get_or, inl, inr, length, map, refl, subst}
+use Rattle.std.proofs.Common.{◌≡◌, ◌<◌, ◌∙◌, ℕ, List, Option, String, ap, get_or, inl, inr, length, map, refl}
 use Rattle.std.proofs.Common.{sym}
 use Rattle.std.specs.Borrow.{Bor}
 use Rattle.std.specs.Io.KnownBytes.{Appends}
@@ -15,32 +15,11 @@ use Rattle.hg_trial.specs.declared.tried.Answer.{Answer}
 use Rattle.hg_trial.specs.Trials.{AnswersTo, IsLeastOfTaken}
 use Rattle.hgfleet.specs.declared.failure.Failure.{Failure}
 use Rattle.hgfleet.specs.declared.failure.Failure.TheVariants as failed
-use Rattle.hgfleet.specs.Commands.{IsOutputFailure}
 use Rattle.hgfleet.specs.declared.try_arguments.WantedTrial.{WantedTrial}
-use Rattle.hgfleet.specs.Trying.{EndsCompared, EndsComparison, EndsTrial, IsAccount, IsAnsweredTrial, IsTrial, IsUnread}
-use Rattle.hgfleet.specs.Trying.{IsTargetUnwritten, IsUnreadAmong, IsWantOfMemory}
+use Rattle.hgfleet.specs.Trying.{EndsTrial, IsAccount, IsAnsweredTrial, IsTrial, IsUnread}
+use Rattle.hgfleet.specs.Trying.{IsTargetUnwritten, IsUnreadAmong}
 
 -- ---- why it ends
-
-pub output_ends_trial : (wanted : WantedTrial) (held holds : Option Text) (failure : Failure)
-    → IsOutputFailure failure → EndsTrial wanted held holds failure
-output_ends_trial wanted held holds failure (inl is) =
-    subst (EndsTrial wanted held holds) (sym is) (inr (inl refl))
-output_ends_trial wanted held holds failure (inr is) =
-    subst (EndsTrial wanted held holds) (sym is) (inr (inr refl))
-
-pub output_ends_comparison : (held holds : Option Text) (failure : Failure) → IsOutputFailure failure
-    → EndsCompared held holds failure
-output_ends_comparison held holds failure (inl is) = subst (EndsCompared held holds) (sym is) (inr (inl refl))
-output_ends_comparison held holds failure (inr is) = subst (EndsCompared held holds) (sym is) (inr (inr refl))
-
-pub memory_ends_trial : (wanted : WantedTrial) (held holds : Option Text) (failure : Failure)
-    → IsWantOfMemory failure → EndsTrial wanted held holds failure
-memory_ends_trial wanted held holds failure is = output_ends_trial wanted held holds failure (inr is)
-
-pub memory_unread : (names : List (String Global)) (failure : Failure) → IsWantOfMemory failure
-    → IsUnreadAmong names failure
-memory_unread names failure is = subst (IsUnreadAmong names) (sym is) refl
 
 -- ---- files that weren't read
 
@@ -73,52 +52,6 @@ unread_ends_trial wanted held (failed.Unmet count) is = absurd is
 unread_ends_trial wanted held failed.OutputClosed is = absurd is
 unread_ends_trial wanted held (failed.NotTaken told) is = absurd is
 unread_ends_trial wanted held failed.Differ is = absurd is
-
-pub first_ends : (first second : Text) (held : Option Text) (failure : Failure) → IsUnread first failure
-    → EndsComparison first second held held failure
-first_ends first second held (failed.File told fault) is = (inl is, refl)
-first_ends first second held (failed.Run fault) is = inr (inr is)
-first_ends first second held (failed.Noted noted) is = absurd is
-first_ends first second held (failed.Refused count) is = absurd is
-first_ends first second held (failed.Show fault) is = absurd is
-first_ends first second held (failed.UnknownName name) is = absurd is
-first_ends first second held (failed.UnknownNode name nodes) is = absurd is
-first_ends first second held (failed.FewLines count) is = absurd is
-first_ends first second held (failed.Unmet count) is = absurd is
-first_ends first second held failed.OutputClosed is = absurd is
-first_ends first second held (failed.NotTaken told) is = absurd is
-first_ends first second held failed.Differ is = absurd is
-
-pub second_ends : (first second : Text) (held : Option Text) (failure : Failure) → IsUnread second failure
-    → EndsComparison first second held held failure
-second_ends first second held (failed.File told fault) is = (inr is, refl)
-second_ends first second held (failed.Run fault) is = inr (inr is)
-second_ends first second held (failed.Noted noted) is = absurd is
-second_ends first second held (failed.Refused count) is = absurd is
-second_ends first second held (failed.Show fault) is = absurd is
-second_ends first second held (failed.UnknownName name) is = absurd is
-second_ends first second held (failed.UnknownNode name nodes) is = absurd is
-second_ends first second held (failed.FewLines count) is = absurd is
-second_ends first second held (failed.Unmet count) is = absurd is
-second_ends first second held failed.OutputClosed is = absurd is
-second_ends first second held (failed.NotTaken told) is = absurd is
-second_ends first second held failed.Differ is = absurd is
-
--- a comparison that ends as one of read files does
-pub compared_ends : (first second : Text) (held holds : Option Text) (failure : Failure)
-    → EndsCompared held holds failure → EndsComparison first second held holds failure
-compared_ends first second held holds (failed.File told fault) h = absurd h
-compared_ends first second held holds (failed.Run fault) h = h
-compared_ends first second held holds (failed.Noted noted) h = absurd h
-compared_ends first second held holds (failed.Refused count) h = absurd h
-compared_ends first second held holds (failed.Show fault) h = absurd h
-compared_ends first second held holds (failed.UnknownName name) h = absurd h
-compared_ends first second held holds (failed.UnknownNode name nodes) h = absurd h
-compared_ends first second held holds (failed.FewLines count) h = absurd h
-compared_ends first second held holds (failed.Unmet count) h = absurd h
-compared_ends first second held holds failed.OutputClosed h = absurd h
-compared_ends first second held holds (failed.NotTaken told) h = h
-compared_ends first second held holds failed.Differ h = h
 
 -- ---- a trial
 

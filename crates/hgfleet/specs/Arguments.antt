@@ -126,21 +126,17 @@ program_at words =
     let with_compare = with_subcommand (with_subcommand with_fate try_app.top) compare_app.top in
     with_subcommand with_compare check_app.top
 
--- a reference to a text; nothing that is said of the program depends on where the text lies
-abbrev pub reference : {T : Type 0} → T → Bor T
-reference x = record { ref_ptr = (0, 0); now = x }
-
--- `hgfleet` with the words that name the forms
-abbrev pub program : App
-program = program_at (reference (map reference form_words))
-
 -- after the program's name, whatever it is, the word `run` alone
 abbrev pub IsRun : List Text → Type 0
 IsRun words = drop 1 words ≡ codes "run" ∷ []
 
 -- the kinds of error that the parser may tell at the words, none where it takes them
-unfoldable pub faults_at : List Text → Kinds
-faults_at words = fault_of program words
+unfoldable pub faults_at : Words → List Text → Kinds
+faults_at forms words = fault_of (program_at forms) words
+
+-- the command that the words name, and what is given to it
+unfoldable pub command_met : Words → List Text → Option (Text × List Row)
+command_met forms words = subcommand_of (program_at forms) words
 
 -- the decimal number that the text writes, where it lies between the bounds
 abbrev pub number_within : ℕ → ℕ → Text → Option ℕ
@@ -167,10 +163,6 @@ numbers_given rows =
 abbrev pub race_met : Option (Text × List Row) → Option (ℕ × ℕ)
 race_met None = None
 race_met (Some met) = if bytes_eq met.0 (codes "race") then numbers_given met.1 else None
-
--- the numbers of nodes and of rounds that words without a fault give for a race, none where they ask for no race
-unfoldable pub race_numbers : List Text → Option (ℕ × ℕ)
-race_numbers words = race_met (subcommand_of program words)
 
 -- so many nodes may race for so many rounds
 abbrev pub IsRaceSize : ℕ → ℕ → Type 0
@@ -199,10 +191,6 @@ notes_given rows =
 abbrev pub run_met : Option (Text × List Row) → Option RunNotes
 run_met None = None
 run_met (Some met) = if bytes_eq met.0 (codes "run") then notes_given met.1 else None
-
--- the notes that words without a fault give for a run, none where they ask for no run with notes
-unfoldable pub run_notes : List Text → Option RunNotes
-run_notes words = run_met (subcommand_of program words)
 
 -- the picture that the flags of a graph and of JSON ask for, none where they ask for two
 abbrev pub picture_of : Bool → Bool → Option Picture
@@ -236,45 +224,25 @@ abbrev pub log_met : Option (Text × List Row) → Option LogOptions
 log_met None = None
 log_met (Some met) = if bytes_eq met.0 (codes "log") then log_given met.1 else None
 
--- what words without a fault give for a log, none where they ask for no log
-unfoldable pub log_options : List Text → Option LogOptions
-log_options words = log_met (subcommand_of program words)
-
 -- the names that are given to be told why, where `why` is the command that was met
 abbrev pub why_met : Option (Text × List Row) → Option (List Text)
 why_met None = None
 why_met (Some met) = if bytes_eq met.0 (codes "why") then Some (names_given met.1) else None
-
--- the names that words without a fault give to be told why, none where they don't ask for it
-unfoldable pub why_names : List Text → Option (List Text)
-why_names words = why_met (subcommand_of program words)
 
 -- the labels whose fates are told, where `fate` is the command that was met
 abbrev pub fate_met : Option (Text × List Row) → Option (List Text)
 fate_met None = None
 fate_met (Some met) = if bytes_eq met.0 (codes "fate") then Some (words_given (codes "labels") met.1) else None
 
--- the labels that words without a fault give for that, none where they don't ask for it
-unfoldable pub fate_labels : List Text → Option (List Text)
-fate_labels words = fate_met (subcommand_of program words)
-
 -- what is given for a trial, where `try` is the command that was met
 abbrev pub try_met : Option (Text × List Row) → Option TrialOptions
 try_met None = None
 try_met (Some met) = if bytes_eq met.0 (codes "try") then try_given met.1 else None
 
--- what words without a fault give for a trial, none where they ask for no trial
-unfoldable pub trial_options : List Text → Option TrialOptions
-trial_options words = try_met (subcommand_of program words)
-
 -- the two files that are compared, where `compare` is the command that was met
 abbrev pub compare_met : Option (Text × List Row) → Option (Text × Text)
 compare_met None = None
 compare_met (Some met) = if bytes_eq met.0 (codes "compare") then files_compared met.1 else None
-
--- the two files that words without a fault give to be compared, none where they don't ask for it
-unfoldable pub compared_files : List Text → Option (Text × Text)
-compared_files words = compare_met (subcommand_of program words)
 
 -- whether a check is to fill the script in, and whether it says why lines were refused, where `check` is the command
 -- that was met
@@ -282,10 +250,6 @@ abbrev pub check_met : Option (Text × List Row) → Option (Bool × Bool)
 check_met None = None
 check_met (Some met) = if bytes_eq met.0 (codes "check")
     then Some (flag_given (codes "write") met.1, flag_given (codes "explain") met.1) else None
-
--- what words without a fault say of that, none where they ask for no check
-unfoldable pub check_flags : List Text → Option (Bool × Bool)
-check_flags words = check_met (subcommand_of program words)
 
 -- the form that the word names
 abbrev pub form_named : Text → Option Form
@@ -302,10 +266,6 @@ abbrev pub show_met : Option (Text × List Row) → Option Form
 show_met None = None
 show_met (Some met) = if bytes_eq met.0 (codes "show") then form_given met.1 else None
 
--- the form that words without a fault give for what is shown, none where they ask to show nothing
-unfoldable pub shown_form : List Text → Option Form
-shown_form words = show_met (subcommand_of program words)
-
 -- a form with a name, where both are given
 abbrev pub form_and_name : Option Form → Option Text → Option (Form × Text)
 form_and_name (Some form) (Some name) = Some (form, name)
@@ -320,10 +280,6 @@ write_given rows = form_and_name (form_given rows) (first_of (codes "name") rows
 abbrev pub write_met : Option (Text × List Row) → Option (Form × Text)
 write_met None = None
 write_met (Some met) = if bytes_eq met.0 (codes "write") then write_given met.1 else None
-
--- the form and the name that words without a fault give for what is written, none where they ask to write nothing
-unfoldable pub written_form : List Text → Option (Form × Text)
-written_form words = write_met (subcommand_of program words)
 
 -- what is wanted can be done: the numbers of a race are within their bounds
 abbrev pub IsWithinBounds : Wanted → Type 0
@@ -406,57 +362,36 @@ MeetsWanted met None =
     × (write_met met ≡ None) × (why_met met ≡ None) × (fate_met met ≡ None) × (try_met met ≡ None)
     × (compare_met met ≡ None) × (check_met met ≡ None)
 
--- the words give nothing for a run with notes, a race, a log, what is shown, what is written, what is told, a trial,
--- what is compared and what is checked
-abbrev pub GivesNothing : List Text → Type 0
-GivesNothing words =
-    (run_notes words ≡ None) × (race_numbers words ≡ None) × (log_options words ≡ None) × (shown_form words ≡ None)
-    × (written_form words ≡ None) × (why_names words ≡ None) × (fate_labels words ≡ None)
-    × (trial_options words ≡ None) × (compared_files words ≡ None) × (check_flags words ≡ None)
+-- the parser finds no fault, and the command that the words name asks for this
+abbrev pub AskFor : Words → List Text → Option Wanted → Type 0
+AskFor forms words wanted = (faults_at forms words ≡ []) × MeetsWanted (command_met forms words) wanted
 
--- the parser finds no fault, and what is wanted is what the command that the words name asks for; or it tells a fault
--- of the words, or that memory ran out
-abbrev pub ParseAnswer : List Text → Result (Option Wanted) Error → Type 0
-ParseAnswer words (Ok wanted) = (faults_at words ≡ []) × MeetsWanted (subcommand_of program words) wanted
-ParseAnswer words (Err e) = HasKind (faults_at words) e
+-- the parser's answer: what the words ask for, or a fault of the words, or that memory ran out
+abbrev pub ParseAnswer : Words → List Text → Result (Option Wanted) Error → Type 0
+ParseAnswer forms words (Ok wanted) = AskFor forms words wanted
+ParseAnswer forms words (Err e) = HasKind (faults_at forms words) e
 
 -- the error is no answer to who asked for a text, and memory didn't run out
 abbrev pub IsMistake : Error → Type 0
 IsMistake e = (kind_of e ≢ DisplayHelp) × (kind_of e ≢ DisplayVersion) × (kind_of e ≢ OutOfMemory)
 
--- the words of a run ask for a run, and no others do; a run with notes is asked for by words without a fault that give
--- its flags; a race is asked for by words without a fault that give its numbers, and these are within their bounds; a
--- log by words without a fault that give its options, what is shown by such that give a form, what is written by such
--- that give a form and a name, why by such that give names, fates by such that give labels, a trial by such that give
--- its options, and a comparison by such that give files; help and the version are given where the parser says that they
--- are asked for; all else is bad, and is what the parser says, or words that it takes and that give nothing for any of
--- these, as a log that two pictures are asked of, or a trial with flags that exclude each other
+-- the words of a run ask for a run, and no others do; help and the version are given where the parser says that they
+-- are asked for; anything else is what the command that the words name asks for, where the parser finds no fault, and
+-- can be done; all else is bad, and is what the parser says, or words that it takes and that ask for nothing, as a log
+-- that two pictures are asked of, or a trial with flags that exclude each other
+abbrev pub FormsAnswer : Words → List Text → Result Wanted ArgumentFault → Type 0
+FormsAnswer forms words (Ok Run) = IsRun words
+FormsAnswer forms words (Ok (Help e)) = IsAmong DisplayHelp (faults_at forms words)
+FormsAnswer forms words (Ok (Version e)) = IsAmong DisplayVersion (faults_at forms words)
+FormsAnswer forms words (Ok wanted) = AskFor forms words (Some wanted) × IsWithinBounds wanted
+FormsAnswer forms words (Err (BadArguments e)) = ¬ (IsRun words) × IsMistake e
+    × (AskFor forms words None ⊎ IsAmong (kind_of e) (faults_at forms words))
+FormsAnswer forms words (Err NotText) = ⊥
+FormsAnswer forms words (Err NoMemory) = Unit {0}
+
+-- that is so for words that name the forms, which lie somewhere
 abbrev pub ArgumentsAnswer : List Text → Result Wanted ArgumentFault → Type 0
-ArgumentsAnswer words (Ok Run) = IsRun words
-ArgumentsAnswer words (Ok (RunWithNotes explains traces is_strict)) =
-    (faults_at words ≡ []) × (run_notes words ≡ Some (explains, traces, is_strict))
-ArgumentsAnswer words (Ok (Race nodes rounds)) =
-    (faults_at words ≡ []) × (race_numbers words ≡ Some (nodes, rounds)) × IsRaceSize nodes rounds
-ArgumentsAnswer words (Ok (Log nodes shows_hidden picture line)) =
-    (faults_at words ≡ []) × (log_options words ≡ Some (texts_of nodes.items, shows_hidden, picture, line))
-ArgumentsAnswer words (Ok (Show form)) = (faults_at words ≡ []) × (shown_form words ≡ Some form)
-ArgumentsAnswer words (Ok (Write form name)) =
-    (faults_at words ≡ []) × (written_form words ≡ Some (form, string_bytes name))
-ArgumentsAnswer words (Ok (Why nodes)) = (faults_at words ≡ []) × (why_names words ≡ Some (texts_of nodes.items))
-ArgumentsAnswer words (Ok (Fate labels)) =
-    (faults_at words ≡ []) × (fate_labels words ≡ Some (texts_of labels.items))
-ArgumentsAnswer words (Ok (Try trial)) =
-    (faults_at words ≡ []) × (trial_options words ≡ Some (options_of_trial trial))
-ArgumentsAnswer words (Ok (Compare first second)) =
-    (faults_at words ≡ []) × (compared_files words ≡ Some (string_bytes first, string_bytes second))
-ArgumentsAnswer words (Ok (Check fills explains)) =
-    (faults_at words ≡ []) × (check_flags words ≡ Some (fills, explains))
-ArgumentsAnswer words (Ok (Help e)) = IsAmong DisplayHelp (faults_at words)
-ArgumentsAnswer words (Ok (Version e)) = IsAmong DisplayVersion (faults_at words)
-ArgumentsAnswer words (Err (BadArguments e)) = ¬ (IsRun words) × IsMistake e
-    × (((faults_at words ≡ []) × GivesNothing words) ⊎ IsAmong (kind_of e) (faults_at words))
-ArgumentsAnswer words (Err NotText) = ⊥
-ArgumentsAnswer words (Err NoMemory) = Unit {0}
+ArgumentsAnswer words answer = (forms : Words) × NamesForms forms × FormsAnswer forms words answer
 
 -- bad arguments are the only refusal; want of memory has no number
 abbrev pub argument_fault_number : ArgumentFault → Option ℕ

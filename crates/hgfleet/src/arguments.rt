@@ -1,5 +1,5 @@
 //! The arguments of the program.
-ghost use Rattle.std.specs.Prelude.{◌≡◌, ◌↔◌, map, ℕ, IsTrue, IfOk, codes};
+ghost use Rattle.std.specs.Prelude.{◌≡◌, ◌↔◌, ◌∷◌, map, ℕ, IsTrue, IfOk, codes};
 ghost use Rattle.std.specs.Prelude.{Ok, Some, None, true, false, ◌≤◌, IfSome, pos};
 ghost use Rattle.clap.specs.Words.{App, Rule, Text, app_of, found_of, kind_of, new_app, rows_of, rule_of};
 ghost use Rattle.clap.specs.Words.{subcommand_rows_of, with_rule, with_subcommand};
@@ -8,7 +8,8 @@ ghost use Rattle.clap.specs.declared.builder.value_parser.ValueParser.TheVariant
 ghost use Rattle.hg_race.specs.Limits.{least_nodes, most_nodes, most_rounds};
 ghost use Rattle.hgfleet.specs.declared.arguments.ArgumentFault.TheVariants.{NoMemory};
 ghost use Rattle.hg_show.specs.declared.form.Form.TheVariants.{Store, Message};
-ghost use Rattle.hgfleet.specs.Arguments.{ArgumentsAnswer, IsRun, IsMistake, MeetsWanted, ParseAnswer};
+ghost use Rattle.hgfleet.specs.Arguments.{ArgumentsAnswer, FormsAnswer, IsRun, IsMistake, MeetsWanted, NamesForms};
+ghost use Rattle.hgfleet.specs.Arguments.{ParseAnswer, Words, command_met, faults_at};
 ghost use Rattle.hgfleet.specs.Arguments.{program_at, program_alone};
 ghost use Rattle.hgfleet.specs.Arguments.{run, race, show_at, write_at, form_rule};
 ghost use Rattle.hgfleet.specs.Arguments.{IsRunWithNotesOf, notes_given};
@@ -270,7 +271,14 @@ static FORMS: [&str; 3] = ["store", "roots", "message"];
 pub fn read_args(alloc: Global, words: &[&str]) -> Result<Wanted, ArgumentFault>
     ensures { ArgumentsAnswer (map (λ s. s.now) words.now) result }
 {
-    match parse(alloc, words) {
+    read_by_forms(alloc, FORMS.as_slice(), words)
+}
+
+// Reads the words where the forms have these names.
+fn read_by_forms(alloc: Global, forms: &[&str], words: &[&str]) -> Result<Wanted, ArgumentFault>
+    ensures { FormsAnswer forms.entry (map (λ s. s.now) words.now) result }
+{
+    match parse(alloc, forms, words) {
         Ok(Some(wanted)) => Ok(wanted),
         Ok(None) => {
             if is_run(words) {
@@ -325,10 +333,10 @@ fn is_command(words: &[&str], name: &str) -> bool {
 }
 
 // What the words ask for, where that is more than a run.
-fn parse(alloc: Global, words: &[&str]) -> Result<Option<Wanted>, Error>
-    ensures { ParseAnswer (map (λ s. s.now) words.now) result }
+fn parse(alloc: Global, forms: &[&str], words: &[&str]) -> Result<Option<Wanted>, Error>
+    ensures { ParseAnswer forms.entry (map (λ s. s.now) words.now) result }
 {
-    let command = program(alloc, FORMS.as_slice())?;
+    let command = program(alloc, forms)?;
     match command.try_get_matches_from(words) {
         Ok(matches) => Ok(wanted_of(alloc, &matches)?),
         Err(error) => Err(error),
@@ -704,5 +712,6 @@ fn form_argument<'a>(alloc: Global, forms: &'a [&'a str]) -> Arg<'a>
 
 /// The words by which help and the version are asked for, and some that ask for nothing.
 pub fn what_words_ask_for()
-    ensures { (name : Text) → AreAskedFor name }
+    ensures { (forms : Words) (name : Text) → NamesForms forms
+        → AreAskedFor (λ ws. faults_at forms (name ∷ ws)) (λ ws. command_met forms (name ∷ ws)) }
 {}

@@ -1,28 +1,7 @@
-use Rattle.std.proofs.Common.{rules, map, inl, inr, ◌≢◌}
-use Rattle.clap.specs.Words.{kind_of}
-use Rattle.clap.specs.declared.error.kind.ErrorKind.TheVariants.{OutOfMemory}
-use Rattle.hgfleet.proofs.ArgumentLemmas.{not_run, is_told}
-use Rattle.hgfleet.proofs.AnswerLemmas.{answer_met, nothing_met}
+use Rattle.std.proofs.Common.{rules}
+use Rattle.hgfleet.specs.Arguments.{NamesForms}
 use Rattle.hgfleet.proofs.arguments.read_args.Goals as goal
 
-pub returns-in-Ok-Some : goal.returns-in-Ok-Some
-returns-in-Ok-Some c =
-    answer_met (map (λ s. s.now) c.args.words.now) c.in-Ok-Some.wanted c.in-Ok-Some.field-0 c.in-Ok-Some.field-0-is
-    c.in-Ok-Some.ensures
-
-pub returns-in_ok-nothing_asked-in-Ok-None : goal.returns-in_ok-nothing_asked-in-Ok-None
-returns-in_ok-nothing_asked-in-Ok-None c = (
-  search rules,
-  c.in_ok-nothing_asked-in-Ok-None.ensures,
-  inl (nothing_met (map
-      (λ s. s.now) c.args.words.now) c.in-Ok-None.field-0 c.in-Ok-None.field-0-is c.in-Ok-None.ensures),
-)
-
-pub returns-in_default : goal.returns-in_default
-returns-in_default c =
-    let words = map (λ s. s.now) c.args.words.now in
-    let k : kind_of c.in-Err.error ≢ OutOfMemory = search rules in (
-      not_run words c.in-Err.error c.in-Err.ensures k,
-      (search rules, search rules, k),
-      inr (is_told _ c.in-Err.error c.in-Err.ensures k),
-    )
+pub returns : goal.returns
+returns c =
+    let named : NamesForms c.as_slice.result = search rules in (c.as_slice.result, named, c.read_by_forms.ensures)
