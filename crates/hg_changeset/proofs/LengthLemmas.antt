@@ -269,9 +269,6 @@ pub record IsCounted (s : List ℕ) (start i : ℕ) (joined : JoinedLen) : Type 
   pub plain : list_any lf (take (i - start) (drop start s)) ≡ false
   pub measured : Measures joined text
 
-pub none_counted : (s : List ℕ) → IsCounted s 0 0 (record { without_front = 0; without_ends = 0 })
-none_counted s = record { text = []; rest = at_start s; plain = refl; measured = (refl, refl) }
-
 left_true : (a : Bool) → (a || false) ≡ true → a ≡ true
 left_true true h = h
 left_true false h = h

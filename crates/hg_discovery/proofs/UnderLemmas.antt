@@ -54,9 +54,6 @@ child_on_way ps k j (below {p = p} u q) = elim (child_on_way ps k p u) [
   | inr r ↦ inr (r.0, r.1, below r.2 q)
 ]
 
-pub parent_within : (ps : List ParentPlaces) → IsInOrder ps → (j k : ℕ) → IsParentAt ps j k → (k < j) × (j < length ps)
-parent_within ps order j k q = (order j k q, slice_get_within ps j q.0 q.1)
-
 -- ---- closed decisions
 
 module _ (ps : List ParentPlaces) (ds : List Finding) (closed : IsClosed ps ds) where

@@ -103,9 +103,6 @@ pub record IsFront (text : List ℕ) (end count : ℕ) : Type 0 where
   pub counted : length first ≡ count
   pub cut : (k : ℕ) → lines (take (end + k) text) ≡ first ++ lines (take k (drop end text))
 
-pub no_front : (text : List ℕ) → IsFront text 0 0
-no_front text = record { first = []; counted = refl; cut = λ k. ap (λ (m : ℕ). lines (take m text)) (omega arith) }
-
 pub next_front : (text : List ℕ) (end count n : ℕ) → IsFront text end count → IsLineLong (drop end text) n
     → IsFront text (end + n) (count + 1)
 next_front text end count n held (line, more) = record {

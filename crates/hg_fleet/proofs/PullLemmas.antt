@@ -18,7 +18,7 @@ use Rattle.hg_world.specs.declared.event.Answer.TheVariants.{Accepted, Offered, 
 use Rattle.hg_peer.specs.declared.refusal.PeerRefusal.{PeerRefusal}
 use Rattle.hg_peer.specs.Words.{PeerAnswer, PeerEvent, peer_state, peer_words}
 use Rattle.hg_fleet.specs.Pulls.{AreLeftOutAt, IsAbsence, IsNowhere, LacksMessage, Pulls, TakesOffered, TellsAbsence}
-use Rattle.hg_fleet.specs.Pulls.{IsOneAbsent, asking, if_taken, taken}
+use Rattle.hg_fleet.specs.Pulls.{asking, if_taken, taken}
 
 reason_absent : (world : Snapshot KeptValue) (node : KeptValue) (asked : PeerEvent)
     (refusal : EventRefusal PeerRefusal Fault)
@@ -51,12 +51,6 @@ nowhere world asked (Refused refusal) (Some part) new h absent = absurd h
 nowhere world asked (Refused refusal) None new (inl is, same) absent = inl is.1
 nowhere world asked (Refused refusal) None new (inr is, same) absent =
     inr (reason_absent world is.0 asked refusal is.2 absent)
-
--- where it is known what is left out, both are there
-pub both_there : (scope : Scope) (world : Snapshot KeptValue) (taker giver : ℕ) (heads : List Node)
-    → AreLeftOutAt scope world taker giver heads → ¬ (IsOneAbsent world taker giver)
-both_there scope world taker giver heads at (inl none) = let there = at.2 in cc
-both_there scope world taker giver heads at (inr none) = let there = at.3 in cc
 
 -- the giver and the taker of a pull are there, and so is what was offered
 giver_is_there : (old new : Snapshot KeptValue) (scope : Scope) (giver taker : ℕ) (common : Vec Node Global)

@@ -18,11 +18,6 @@ use Rattle.hg_graph.proofs.WalkLemmas.{emptied, less_from_cmp, taken_one, contai
 pub widens-none : (P : ℕ → Type 0) (ks : List ℕ) → ((k : ℕ) → ¬ (P k)) → Widens P ks ks
 widens-none P ks none k = (λ h. inl h, λ h. elim h [ inl old ↦ old | inr p ↦ absurd (none k p) ])
 
--- where nothing waited
-pub widens-alone : (P : ℕ → Type 0) (old new : List ℕ) → old ≡ [] → Widens P old new → (k : ℕ) → Contains new k ↔ P k
-widens-alone P old new empty w k =
-    (λ h. elim ((w k).0 h) [ inl was ↦ absurd (contains_none old k empty was) | inr p ↦ p ], λ p. (w k).1 (inr p))
-
 pub widens-same : (P Q : ℕ → Type 0) (old new : List ℕ) → ((k : ℕ) → Q k ↔ P k) → Widens P old new → Widens Q old new
 widens-same P Q old new same w k = (
   λ h. elim ((w k).0 h) [ inl was ↦ inl was | inr p ↦ inr ((same k).1 p) ],

@@ -1,6 +1,6 @@
 -- What a kept list says, its content says, and the other way round.
-use Rattle.std.proofs.Common.{◌≡◌, ℕ, zero, suc, ◌<◌, [], ◌∷◌, take, slice_get, Some, Result, Ok, Err, IfOk, IfErr}
-use Rattle.std.proofs.Common.{OnOk, OnErr, Contains, ◌↔◌, ◌⊎◌, inl, inr, refl, sym, ap, subst, ◌∙◌, arith}
+use Rattle.std.proofs.Common.{◌≡◌, ℕ, zero, suc, ◌<◌, [], ◌∷◌, take, slice_get, Some, Result, Ok, Err}
+use Rattle.std.proofs.Common.{OnOk, Contains, ◌↔◌, ◌⊎◌, inl, inr, refl, sym, ap, subst, ◌∙◌, arith}
 use Rattle.hg_changeset.specs.declared.node.Node.{Node}
 use Rattle.hg_changeset.specs.Contents.{Contents}
 use Rattle.hg_changeset.specs.Changeset.{node_of, IsChangeset}
@@ -15,11 +15,7 @@ use Rattle.hg_phases.specs.Order.{Below}
 use Rattle.hg_phases.specs.Least.{PartValue, Covers, IsAdmitted, IsBoundOfOne, IsChangesetOfOne, IsCandidate, IsLeast}
 use Rattle.hg_phases.proofs.LeastLemmas.{held_from, changeset_from, same_changeset, Holds-taken}
 use Rattle.hg_history.specs.declared.fault.Fault.{Fault}
-use Rattle.hg_history.specs.declared.fault.Fault.TheVariants.{UnknownParent, Collision, UnknownBound, NullBound}
-use Rattle.hg_history.specs.declared.fault.Fault.TheVariants.{NoMemory}
-use Rattle.hg_history.specs.Change.{ChangeValue, unheld}
-use Rattle.hg_history.specs.Answer.{IsFirstFault, IsRefusal, AbsorbAnswer}
-use Rattle.hg_history.specs.Join.{TellsChange}
+use Rattle.hg_history.specs.Answer.{IsFirstFault}
 use Rattle.hg_phases.specs.Content.{content_of}
 use Rattle.hg_phases.proofs.ContentLemmas.{held_in_content, content-held}
 use Rattle.hg_history.specs.Content.{IsHeld, IsHeldAs, Leads, IsGrounded, IsValidContent, ContentBelow, ContentCovers}
@@ -324,38 +320,6 @@ module _ (s t : State) (k : PartValue) (valid : IsValid s) (large : IsGraph (cha
             (back h h.phase at lowest.0, λ j candidate. lowest.1 j (forth h j at candidate));
       },
     )
-
--- ---- answers, in the words of contents
-
--- what absorbing leaves is the content after the part
-pub absorbed-content : (s t : State) (k : PartValue) (r : Result ChangeValue Fault) → IsValid s → AbsorbAnswer s k r t
-    → OnOk r (ContentAfter (content_of s) k (content_of t))
-absorbed-content s t k (Ok change) valid h = content-after s t k valid h.least.graph h.least h.admitted
-absorbed-content s t k (Err fault) valid h = tt
-
--- and its refusals are at fault, or for want of memory
-pub refused-content : (s t : State) (k : PartValue) (r : Result ChangeValue Fault) → IsValid s → AbsorbAnswer s k r t
-    → IfErr r (λ fault. IsContentFault (content_of s) k fault ⊎ (fault ≡ NoMemory))
-refused-content s t k (Ok change) valid h = tt
-refused-content s t k (Err fault) valid h = by fault h.0
-  where
-    by : (fault : Fault) → IsRefusal (changesets s) k fault → IsContentFault (content_of s) k fault ⊎ (fault ≡ NoMemory)
-    by (UnknownParent p) x = inl (content-fault s k (UnknownParent p) valid.graph x)
-    by (Collision n) x = inl (content-fault s k (Collision n) valid.graph x)
-    by (UnknownBound n) x = inl (content-fault s k (UnknownBound n) valid.graph x)
-    by NullBound x = inl (content-fault s k NullBound valid.graph x)
-    by NoMemory x = inr refl
-
--- the change tells what became of the state
-pub told-change : (s t : State) (k : PartValue) (r : Result ChangeValue Fault) → AbsorbAnswer s k r t
-    → IfOk r (λ change. TellsChange s change t)
-told-change s t k (Ok change) h =
-    record { new = unheld (changesets s) k.changesets; order = h.order; added = h.added; lowered = h.lowered }
-told-change s t k (Err fault) h = tt
-
-pub unchanged : (s t : State) (k : PartValue) (r : Result ChangeValue Fault) → AbsorbAnswer s k r t → OnErr r (t ≡ s)
-unchanged s t k (Ok change) h = tt
-unchanged s t k (Err fault) h = h.1
 
 pub whatever_answer : {X E : Type 0} (r : Result X E) (P : Type 0) → P → OnOk r P
 whatever_answer (Ok x) P h = h

@@ -1,12 +1,11 @@
 -- The join of two kept states: the other is taken in as a part.
 use Rattle.std.proofs.Common.{◌≡◌, ℕ, zero, suc, ◌<◌, ◌≤◌, ◌+◌, List, [], ◌∷◌, ◌++◌, length, take, slice_get, Option}
-use Rattle.std.proofs.Common.{Some, None, Contains, Bor, Result, Ok, Err, ◌⊎◌, ◌↔◌, inl, inr, refl, sym, ap, subst, ◌∙◌}
+use Rattle.std.proofs.Common.{Some, None, Contains, Bor, Err, ◌⊎◌, ◌↔◌, inl, inr, refl, sym, ap, subst, ◌∙◌}
 use Rattle.std.proofs.Common.{arith}
 use Rattle.std.proofs.lemmas.Bool.{cases_eq}
 use Rattle.std.proofs.lemmas.List.{take_all, length-map}
 use Rattle.std.proofs.lemmas.List.Elements.{Contains-append_right, Contains-append_cases}
 use Rattle.std.specs.Option.{option_map, option_copied}
-use Rattle.std.specs.Result.{IfErr, OnOk}
 use Rattle.std.proofs.lemmas.Map.Made.{length-le_from_is_member}
 use Rattle.std.proofs.lemmas.Map.Views.{Contains-from_any, list_any-from_Contains}
 use Rattle.std.proofs.lemmas.Option.{none-some, same_Some, slice_get-map, slice_get_within}
@@ -38,7 +37,7 @@ use Rattle.hg_history.specs.Answer.{AreHeldUpTo}
 use Rattle.hg_history.specs.Content.{ContentBelow, AgreeAt, joined, ContentsJoined, ContentsCollide}
 use Rattle.hg_history.specs.ContentLaws.{below-both, same-held}
 use Rattle.hg_history.specs.JoinedLaws.{joined-first, joined-second, joined-one}
-use Rattle.hg_history.specs.Join.{JoinAnswer, IsJoin, IsJoinFault, IsHeldAsLow}
+use Rattle.hg_history.specs.Join.{IsJoin, IsJoinFault, IsHeldAsLow}
 use Rattle.hg_history.specs.Steps.{AddAllAnswer, IsAdded}
 use Rattle.hg_history.proofs.AddLemmas.{Holds-same}
 use Rattle.hg_history.proofs.ContentLemmas.{content-below, below_from_content}
@@ -350,15 +349,3 @@ pub missing : (cs : List Contents) (p : ℕ) (r : Option (Bor Contents)) → p <
 missing cs p r within e none =
     let d = slice_get_some cs p within in
     none-some d.0 (sym (ap option_copied none) ∙ e ∙ d.1)
-
--- ---- answers, in the words of contents
-
-pub joined-content : (s o t : State) (r : Result Unit Fault) → IsValid s → IsValid o → JoinAnswer s o r t
-    → OnOk r (ContentsJoined (content_of s) (content_of o) (content_of t))
-joined-content s o t (Ok u) v w h = join-contents s o t v.graph w.graph h.0.graph h.1
-joined-content s o t (Err fault) v w h = tt
-
-pub refused-join : (s o t : State) (r : Result Unit Fault) → IsValid s → IsValid o → JoinAnswer s o r t
-    → IfErr r (λ fault. ContentsCollide (content_of s) (content_of o) fault ⊎ (fault ≡ NoMemory))
-refused-join s o t (Ok u) v w h = tt
-refused-join s o t (Err fault) v w h = collide-contents s o v.graph w.graph fault h.0

@@ -14,11 +14,6 @@ AreThose Seen P found = (n : Node) → Contains found n ↔ (Seen n × P n)
 abbrev pub IsAlso : Node → (Node → Type 0) → (Node → Type 0) → Type 0
 IsAlso m Old New = (n : Node) → New n ↔ (Old n ⊎ (m ≡ n))
 
-pub those-none : (Seen P : Node → Type 0) (found : List Node) → found ≡ [] → ((n : Node) → ¬ (Seen n))
-    → AreThose Seen P found
-those-none Seen P found is never n =
-    (λ h. absurd (Contains-none n (subst (λ ns. Contains ns n) is h)), λ h. absurd (never n h.0))
-
 module _ (Seen More P : Node → Type 0) (found : List Node) (m : Node) (those : AreThose Seen P found)
     (more : IsAlso m Seen More) where
   pub those-found : P m → (new : List Node) → IsAlso m (Contains found) (Contains new) → AreThose More P new

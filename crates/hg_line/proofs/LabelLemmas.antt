@@ -252,25 +252,6 @@ made_for names op s asked part meant d =
 
 -- ---- labels and changesets, pair by pair
 
--- the first of those that are left may be named, and so it is as for the others
-pub each_next : (names : Meaning Node) (labels ls : List Word) (label : Word) (cs ds : List Contents) (d : Contents)
-    → labels ≡ label ∷ ls → cs ≡ d ∷ ds
-    → may_name names label.now (node_of d) ≡ true
-    → each_may_name names (texts labels) (nodes cs) ≡ each_may_name names (texts ls) (nodes ds)
-each_next names labels ls label cs ds d l k may =
-    ap (λ (xs : List Word). each_may_name names (texts xs) (nodes cs)) l
-    ∙ ap (λ (ys : List Contents). each_may_name names (texts (label ∷ ls)) (nodes ys)) k
-    ∙ ap (λ (b : Bool). b && each_may_name names (texts ls) (nodes ds)) may
-
--- it may not
-pub each_stops : (names : Meaning Node) (labels ls : List Word) (label : Word) (cs ds : List Contents) (d : Contents)
-    → labels ≡ label ∷ ls → cs ≡ d ∷ ds
-    → may_name names label.now (node_of d) ≡ false → each_may_name names (texts labels) (nodes cs) ≡ false
-each_stops names labels ls label cs ds d l k may =
-    ap (λ (xs : List Word). each_may_name names (texts xs) (nodes cs)) l
-    ∙ ap (λ (ys : List Contents). each_may_name names (texts (label ∷ ls)) (nodes ys)) k
-    ∙ ap (λ (b : Bool). b && each_may_name names (texts ls) (nodes ds)) may
-
 -- no label is left, or nothing that it could name
 pub each_end : (names : Meaning Node) (labels : List Word) (cs : List Contents) → (length labels ≡ 0) ⊎ (length cs ≡ 0)
     → each_may_name names (texts labels) (nodes cs) ≡ true

@@ -1,6 +1,6 @@
 -- Single events, single commands, and single lines.
 use Rattle.std.proofs.Common.{◌≡◌, ◌↔◌, ℕ, List, [], ◌∷◌, ◌++◌, Option, Some, Bool, true, false, IsTrue}
-use Rattle.std.proofs.Common.{is_some, ◌≢◌, ◌≤◌, inl, inr, length, map}
+use Rattle.std.proofs.Common.{is_some, ◌≤◌, inl, length, map}
 use Rattle.std.proofs.Common.{Result, Ok, Err, OnOk, IfOk}
 use Rattle.std.proofs.Common.{refl, sym, ap, subst, ◌∙◌}
 use Rattle.std.proofs.KnownBytes.{Appends-nil, Appends-trans}
@@ -24,7 +24,6 @@ use Rattle.hg_line.specs.declared.telling.Notes.{Notes}
 use Rattle.hg_line.specs.declared.line_outcome.LineOutcome.{LineOutcome}
 use Rattle.hg_line.specs.declared.line_outcome.LineOutcome.TheVariants.{Nothing}
 use Rattle.hg_line.specs.Commands.{Text, Word}
-use Rattle.hg_line.specs.Endings.{Says}
 use Rattle.hg_line.specs.Limits.{line_limit}
 use Rattle.hg_line.specs.Events.{Trace, PeerEvent, PeerAnswer, ArePrinted, no_trace, Ran}
 use Rattle.hg_line.specs.Outputs.{Printed}
@@ -199,9 +198,3 @@ wordless_line notes number old line words short mapped none = (
     ([], same_explained notes.explains [], same_traced notes.traces []),
   ),
 )
-
--- a line with words says a command
-pub says_some : (number : ℕ) (f : Fleet) (line : Text) (t : Trace) (text : Text) → words_of line ≢ []
-    → PrintsLine number f line t text → (command : Command) × Says line command
-says_some number f line t text some (inl (none, empty)) = absurd (some none)
-says_some number f line t text some (inr (command, says, prints)) = (command, says)

@@ -43,10 +43,6 @@ behind-append b [] ys = refl
 behind-append b (x ∷ xs) [] = refl
 behind-append b (x ∷ xs) (y ∷ ys) = refl
 
-pub divided_none : {A : Type 0} (b : Bool) (d : Text) (f : A → Text) (line : Text)
-    → AreDivided {A = A} b d f [] line line b
-divided_none b d f line = record { text = sym (append-nil line); behind = refl }
-
 -- one more item
 pub divided_more : {A : Type 0} (b : Bool) (d : Text) (f : A → Text) (xs : List A) (x : A) (line a m c : Text)
     (before after : Bool) → AreDivided b d f xs line a before → m ≡ a ++ (if before then d else []) → c ≡ m ++ f x
@@ -77,28 +73,6 @@ divided_next {A = A} b d f xs i e line a m c before after within so middle end i
 not_told : (bytes : Text) (b : Bool) → is_utf8 bytes ≡ b → ¬ (IsUtf8 bytes) → is_utf8 bytes ≡ false
 not_told bytes false e so = e
 not_told bytes true e so = absurd (so (IsUtf8-from_is_utf8 bytes e))
-
--- items behind items
-pub divided_behind : {A : Type 0} (b : Bool) (d : Text) (f : A → Text) (xs ys : List A) (line a c : Text)
-    (middle after : Bool) → AreDivided b d f xs line a middle → AreDivided middle d f ys a c after
-    → AreDivided b d f (xs ++ ys) line c after
-divided_behind b d f xs ys line a c middle after first second =
-    let front : Text = divided b d f xs in
-    let later : c ≡ a ++ divided (behind b xs) d f ys =
-    subst (λ (s : Bool). c ≡ a ++ divided s d f ys) first.behind second.text in
-    let last : after ≡ behind (behind b xs) ys = subst (λ (s : Bool). after ≡ behind s ys) first.behind second.behind in
-    let whole : c ≡ line ++ (front ++ divided (behind b xs) d f ys) =
-    later ∙ ap (λ (t : Text). t ++ divided (behind b xs) d f ys) first.text ∙ append_assoc line front _ in
-    record {
-      text = whole ∙ ap (λ (t : Text). line ++ t) (sym (divided-append b d f xs ys));
-      behind = last ∙ sym (behind-append b xs ys);
-    }
-
--- no item, or one behind a divider
-pub divided_one : {A : Type 0} (b : Bool) (d : Text) (f : A → Text) (x : A) (line m c : Text) (after : Bool)
-    → m ≡ line ++ (if b then d else []) → c ≡ m ++ f x → after ≡ true → AreDivided b d f (x ∷ []) line c after
-divided_one b d f x line m c after middle end is_so =
-    divided_more b d f [] x line line m c b after (divided_none b d f line) middle end is_so
 
 -- bytes that are UTF-8 pass the test, and others don't
 pub utf8_told : {A E : Type 0} (P : A → Type 0) (Q : E → Type 0) (bytes : Text) (r : Result A E) (b : Bool)

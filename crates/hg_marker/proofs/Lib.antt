@@ -3,7 +3,6 @@ pub mod WritingLemmas
 pub mod ReadLemmas
 pub mod WrittenLemmas
 pub mod PiecesLemmas
-pub mod NumberLemmas
 pub mod Formats
 pub mod MarkerLemmas
 pub mod FaultLemmas

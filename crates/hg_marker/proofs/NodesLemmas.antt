@@ -3,9 +3,7 @@ use Rattle.std.proofs.Common.{◌≡◌, ℕ, zero, suc, ◌-◌, ◌+◌, ◌*�
 use Rattle.std.proofs.Common.{◌++◌, length, take, drop, Result, Ok, Err, refl, ap, ◌∙◌, sym, arith, append_assoc}
 use Rattle.std.specs.Prelude.{◌||◌}
 use Rattle.std.specs.List.{list_any}
-use Rattle.std.specs.Result.{IfOk}
-use Rattle.std.proofs.lemmas.Bool.{ltb-false}
-use Rattle.std.proofs.lemmas.List.{take-take, drop-take, length-take, length-drop, append-nil}
+use Rattle.std.proofs.lemmas.List.{take-take, drop-take, length-drop}
 use Rattle.hg_changeset.specs.declared.node.Node.{Node}
 use Rattle.hg_changeset.specs.Node.{null_node, node_eq}
 use Rattle.hg_marker.specs.Reading.{IsReading, and_then, says, field, nodes, ids_in}
@@ -18,11 +16,6 @@ pub first_left : (count i : ℕ) (bytes : List ℕ) → i < count
     → ids_in (count - i) bytes ≡ record { 0 = take 20 bytes } ∷ ids_in (count - (i + 1)) (drop 20 bytes)
 first_left count i bytes lt =
     let k : count - i ≡ suc (count - (i + 1)) = omega arith in
-    rw k refl
-
-pub none_left : (count i : ℕ) (bytes : List ℕ) → count ≤ i → ids_in (count - i) bytes ≡ []
-none_left count i bytes le =
-    let k : count - i ≡ 0 = omega arith in
     rw k refl
 
 -- ---- the null id among them
@@ -51,11 +44,6 @@ null_goes_on count i bytes rest after id lt is after_is other so_far =
     ∙ ap (λ (b : Bool). b || list_any (node_eq null_node) (ids_in (count - (i + 1)) (drop 20 rest))) first in
     ap (λ (b : List ℕ). list_any (node_eq null_node) (ids_in (count - (i + 1)) b)) after_is ∙ sym now ∙ so_far
 
-pub null_nowhere : (count i : ℕ) (bytes rest : List ℕ) → count ≤ i
-    → list_any (node_eq null_node) (ids_in (count - i) rest) ≡ list_any (node_eq null_node) (ids_in count bytes)
-    → false ≡ list_any (node_eq null_node) (ids_in count bytes)
-null_nowhere count i bytes rest le so_far = sym (ap (list_any (node_eq null_node)) (none_left count i rest le)) ∙ so_far
-
 -- ---- copied one by one
 
 pub copy_goes_on : (count i : ℕ) (bytes rest after : List ℕ) (front : List Node) (id : Node) → i < count
@@ -68,11 +56,6 @@ copy_goes_on count i bytes rest after front id lt is after_is so_far =
     ∙ ap (λ (b : List ℕ). front ++ record { 0 = take 20 rest } ∷ ids_in (count - (i + 1)) b) after_is
     ∙ ap (λ (ns : List Node). front ++ ns) (sym (first_left count i rest lt))
     ∙ so_far
-
-pub copied : (count i : ℕ) (bytes rest : List ℕ) (front : List Node) → count ≤ i
-    → front ++ ids_in (count - i) rest ≡ ids_in count bytes → front ≡ ids_in count bytes
-copied count i bytes rest front le so_far =
-    sym (append-nil front) ∙ ap (λ (ns : List Node). front ++ ns) (sym (none_left count i rest le)) ∙ so_far
 
 pub room_left : (count i : ℕ) (rest after : List ℕ) → i < count → after ≡ drop 20 rest → 20 * (count - i) ≤ length rest
     → 20 * (count - (i + 1)) ≤ length after
@@ -110,26 +93,3 @@ module _ {F X : Type 0} (short : F) (n : ℕ) (bytes : List ℕ) (view : X → L
       ids_read short n bytes ∙ ap (λ (r : Result (List ℕ × List ℕ) F). and_then r (λ ids. says (ids_in n ids))) e
   as_ids (Err f) e =
       ids_read short n bytes ∙ ap (λ (r : Result (List ℕ × List ℕ) F). and_then r (λ ids. says (ids_in n ids))) e
-
-  pub as_long : (r : Result X F) → IsReading view r (field short (20 * n) bytes)
-      → IfOk r (λ x. length (view x).0 ≡ 20 * n)
-  as_long (Err f) e = tt
-  as_long (Ok x) e =
-      ap length (sym (taken (ltb (length bytes) (20 * n)) refl e))
-      ∙ omega (
-        arith,
-        length-take (20 * n) bytes,
-        ltb-false (length bytes) (20 * n) (enough (ltb (length bytes) (20 * n)) refl e),
-      )
-    where
-      enough : (b : Bool) → ltb (length bytes) (20 * n) ≡ b
-          → ◌≡◌ {A = Result (List ℕ × List ℕ) F} (cond b (Err short) (Ok (take (20 * n) bytes, drop (20 * n) bytes)))
-          (Ok (view x)) → ltb (length bytes) (20 * n) ≡ false
-      enough true is e = absurd cc
-      enough false is e = is
-
-      taken : (b : Bool) → ltb (length bytes) (20 * n) ≡ b
-          → ◌≡◌ {A = Result (List ℕ × List ℕ) F} (cond b (Err short) (Ok (take (20 * n) bytes, drop (20 * n) bytes)))
-          (Ok (view x)) → take (20 * n) bytes ≡ (view x).0
-      taken true is e = absurd cc
-      taken false is e = cc

@@ -1,17 +1,17 @@
 -- Pieces of metadata, one after another.
 use Rattle.std.proofs.Common.{◌≡◌, ℕ, ◌+◌, Bool, true, false, cond, not, eqb, List, [], ◌∷◌, ◌++◌, length, take, drop}
-use Rattle.std.proofs.Common.{map, reverse, Option, Some, None, ltb, refl, sym, ap, ◌∙◌, arith, append_assoc}
+use Rattle.std.proofs.Common.{map, reverse, Option, Some, None, ltb, sym, ap, ◌∙◌, arith, append_assoc}
 use Rattle.std.specs.Prelude.{position}
 use Rattle.memchr.specs.Find.{IsFirstByte, is_byte}
-use Rattle.std.specs.List.{position_or_len, slice_split, before_first, after_first}
+use Rattle.std.specs.List.{slice_split, before_first, after_first}
 use Rattle.std.proofs.lemmas.List.Splits.{slice_split_first, slice_split_none}
-use Rattle.std.proofs.lemmas.List.{map-append, reverse-append, append-nil, nil_from_length, take_all, length-drop}
+use Rattle.std.proofs.lemmas.List.{map-append, reverse-append, append-nil, nil_from_length}
 use Rattle.std.proofs.lemmas.List.Elements.{filter-append}
 use Rattle.std.proofs.lemmas.List.Folds.{list_any_none, list_any_at}
 use Rattle.std.proofs.lemmas.List.Sums.{fails_before_first, position_or_len_is}
 use Rattle.std.proofs.lemmas.Bool.{false_from_ne_true, le-ltb, lt-ltb}
 use Rattle.std.proofs.lemmas.List.Quantifiers.{position-Some}
-use Rattle.std.specs.FinMap.{from_entries, insert, empty}
+use Rattle.std.specs.FinMap.{from_entries, insert}
 use Rattle.hg_changeset.proofs.ListLemmas.{position-found, position-none}
 use Rattle.hg_marker.specs.Texts.{Texts, bytes_cmp}
 use Rattle.hg_marker.specs.Metadata.{is_nul, is_colon, nonempty, has_colon, entry, texts, pieces}
@@ -43,24 +43,10 @@ pub record ReadsSoFar (bytes rest : List ℕ) (m : Texts) : Type 0 where
   pub parts : pieces bytes ≡ done ++ pieces rest
   pub texts : m ≡ texts done
 
-pub starts : (bytes : List ℕ) → ReadsSoFar bytes bytes empty
-starts bytes = record { done = []; parts = refl; texts = refl }
-
 texts_push : (qs : List (List ℕ)) (p : List ℕ) → texts (qs ++ p ∷ []) ≡ insert (texts qs) (entry p).0 (entry p).1
 texts_push qs p =
     ap (λ (es : List (List ℕ × List ℕ)). from_entries {R = bytes_cmp} es)
     (ap reverse (map-append entry qs (p ∷ [])) ∙ reverse-append (map entry qs) (entry p ∷ []))
-
--- an empty piece says nothing
-pub skips : (bytes rest p after : List ℕ) (m : Texts) → length p ≡ 0 → pieces rest ≡ nonempty (p ∷ []) ++ pieces after
-    → ReadsSoFar bytes rest m → ReadsSoFar bytes after m
-skips bytes rest p after m none split h = record {
-  done = h.done;
-  parts = h.parts
-      ∙ ap (λ (ps : List (List ℕ)). h.done ++ ps)
-      (split ∙ ap (λ (n : ℕ). cond (not (eqb n 0)) (p ∷ []) [] ++ pieces after) none);
-  texts = h.texts;
-}
 
 -- a piece that isn't empty is the next one
 next : (bytes rest p after : List ℕ) (m : Texts) → eqb (length p) 0 ≡ false
@@ -90,14 +76,6 @@ is_read bytes rest m none h =
 
 pub split_there : (p : List ℕ) (i : ℕ) → position is_colon p ≡ Some i → (take i p, drop (i + 1) p) ≡ entry p
 split_there p i e = ap (λ (n : ℕ). (take n p, drop (n + 1) p)) (sym (position-found is_colon p i e).1)
-
-pub split_nowhere : (p : List ℕ) → position is_colon p ≡ None → (p, []) ≡ entry p
-split_nowhere p e =
-    let past = position-none is_colon p e in
-    let front : take (position_or_len is_colon p) p ≡ p = take_all (position_or_len is_colon p) p past in
-    let back : drop (position_or_len is_colon p + 1) p ≡ [] =
-    nil_from_length _ (omega (arith, past, length-drop (position_or_len is_colon p + 1) p)) in
-    λ i. (sym front i, sym back i)
 
 -- ---- colons
 

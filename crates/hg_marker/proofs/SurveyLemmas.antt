@@ -25,16 +25,8 @@ pub record IsSurveyed (bytes rest : List ℕ) (last : Option (List ℕ)) (len : 
   pub weighs : min (len + weight (map entry (pieces rest))) (2 ^ 64 - 1)
       ≡ min (weight (map entry (pieces bytes))) (2 ^ 64 - 1)
 
-pub none_surveyed : (bytes : List ℕ) → IsSurveyed bytes bytes None 0 true false
-none_surveyed bytes = record { colons = refl; ascent = refl; parents = refl; weighs = omega arith }
-
 module _ (bytes rest p after : List ℕ) (last : Option (List ℕ)) (len : ℕ) (ascending named : Bool)
     (first : pieces rest ≡ p ∷ pieces after) (h : IsSurveyed bytes rest last len ascending named) where
-  -- a piece without a colon
-  pub ill_formed : has_colon p ≡ false → list_all has_colon (pieces bytes) ≡ false
-  ill_formed colon =
-      sym h.colons ∙ ap (list_all has_colon) first ∙ ap (λ b. b && list_all has_colon (pieces after)) colon
-
   -- one with this key
   pub one_surveyed : has_colon p ≡ true → (key : List ℕ) → key ≡ (entry p).0 → (more : ℕ)
       → more ≡ min (len + (length p + 1)) (2 ^ 64 - 1)

@@ -21,21 +21,12 @@ use Rattle.hg_message.specs.declared.layout.Layout.{Layout}
 use Rattle.hg_message.specs.declared.scope.Scope.{Scope}
 use Rattle.hg_message.specs.Value.{MessageValue}
 use Rattle.hg_message.specs.Counted.{first_of}
-use Rattle.hg_message.specs.Record.{RecordFields, IsItsRecord, contents_of, fields_at, record_at}
+use Rattle.hg_message.specs.Record.{record_at}
 use Rattle.hg_message.specs.Message.{message_at}
 use Rattle.hg_message.specs.Known.{IsKnownAt, AreKnownAt, PartAnswer, rest_of}
 use Rattle.hg_message.specs.Layout.{records_in, bounds_in, markers_in, with_read, with_markers, said, KnowsRecords}
 use Rattle.hg_message.specs.Layout.{GivesPart}
 use Rattle.hg_message.proofs.LayoutLemmas.{counted_long}
-
--- a record is read in one way
-pub read_once : (total index : ℕ) (bytes rest after : List ℕ) (f : RecordFields) (c : Contents)
-    → fields_at total index bytes ≡ Ok (f, rest) → IsItsRecord f → record_at total index bytes ≡ Ok (c, after)
-    → contents_of f ≡ c
-unfolding record_at
-read_once total index bytes rest after f c e its r =
-    let one : record_at total index bytes ≡ Ok (contents_of f, rest) = rw (e, its.differ, its.named) refl in
-    ap (λ (x : Contents × List ℕ). x.0) (ok_is MessageFault (contents_of f, rest) (c, after) (sym one ∙ r))
 
 -- where all so far are known, and the next is
 pub both_known : (a b : Bool) → IsTrue (a && b) → IsTrue a × IsTrue b

@@ -1,7 +1,7 @@
 -- Numbers of ids in lists where none stands twice.
-use Rattle.std.proofs.Common.{◌≡◌, ℕ, ◌<◌, true, false, List, [], ◌∷◌, ◌++◌, length, slice_get, get_or, Some, None}
-use Rattle.std.proofs.Common.{inl, inr, refl, sym, ap, subst, ◌∙◌, arith, true≢false, zero, suc}
-use Rattle.std.proofs.Common.{◌≢◌, ◌+◌, Option, is_some, not, slice_set, take}
+use Rattle.std.proofs.Common.{◌≡◌, ℕ, ◌<◌, true, false, List, [], ◌∷◌, length, slice_get, get_or, Some, None}
+use Rattle.std.proofs.Common.{inl, inr, refl, sym, ◌∙◌, arith, true≢false, zero, suc}
+use Rattle.std.proofs.Common.{◌≢◌, Option, is_some, take}
 use Rattle.std.specs.BTreeMap.{is_at}
 use Rattle.std.specs.List.{IsDistinct, list_any, position_or_len}
 use Rattle.std.specs.Ordering.{is_eq}
@@ -10,15 +10,14 @@ use Rattle.std.specs.declared.cmp.Ordering.TheVariants.{Less, Equal, Greater}
 use Rattle.std.proofs.lemmas.Bool.{cases_order, false_from_ne_true}
 use Rattle.std.proofs.lemmas.Grind.{common_steps}
 use Rattle.std.proofs.lemmas.List.Quantifiers.{position-Some}
-use Rattle.std.proofs.lemmas.List.{get_or_append_left, length-append, length-take, take_all, take_more}
-use Rattle.std.proofs.lemmas.List.Sums.{position_or_len_is, prefix_len-le-length}
-use Rattle.std.proofs.lemmas.Map.Keys.{IsDistinct-from_apart, apart_from_distinct}
+use Rattle.std.proofs.lemmas.List.Sums.{position_or_len_is}
+use Rattle.std.proofs.lemmas.Map.Keys.{apart_from_distinct}
 use Rattle.std.proofs.lemmas.Map.Views.{Contains-from_any, list_any-from_Contains}
 use Rattle.std.proofs.lemmas.Option.{get_or_from_slice_get, none-some, slice_get_read, slice_get_within}
 use Rattle.hg_changeset.specs.declared.node.Node.{Node}
 use Rattle.hg_changeset.specs.Node.{node_cmp, node_eq}
 use Rattle.hg_changeset.proofs.NodeLemmas.{node_apart, node_cmp_exact, node_eq_laws, node_itself, same_node}
-use Rattle.hg_changeset.proofs.ListLemmas.{Contains-from_place, place_from_Contains, position-none}
+use Rattle.hg_changeset.proofs.ListLemmas.{Contains-from_place, place_from_Contains}
 use Rattle.hg_node_set.specs.Keys.{number_of}
 
 -- an id stands at one place only
@@ -80,23 +79,6 @@ get-take [] (suc n) i x h = absurd (none-some x h)
 get-take (y ∷ xs) (suc n) zero x h = (omega arith, h)
 get-take (y ∷ xs) (suc n) (suc i) x h = let r = get-take xs n i x h in (omega arith, r.1)
 
--- an id isn't among those before it
-pub not_before : (ns : List Node) (n : Node) (k : ℕ) → IsDistinct node_eq ns → slice_get ns k ≡ Some n
-    → list_any (node_eq n) (take k ns) ≡ false
-not_before ns n k d at = false_from_ne_true (list_any (node_eq n) (take k ns)) (λ h.
-    let held = place_from_Contains (take k ns) n (Contains-from_any same_node n (take k ns) h) in
-    let before = get-take ns k held.0 n held.1 in
-    not_later ns n held.0 k d before.1 at before.0)
-
--- a list is what stands before its last id, and that
-pub cut_at : (ns : List Node) (n : Node) (k : ℕ) → k + 1 ≡ length ns → n ≡ get_or ns k n
-    → (ns ≡ take k ns ++ n ∷ []) × (length (take k ns) ≡ k)
-cut_at ns n k at read =
-    let lt : k < length ns = omega (arith, at) in (
-      sym (take_all (k + 1) ns (omega (arith, at))) ∙ take_more ns k n lt ∙ ap (λ m. take k ns ++ m ∷ []) (sym read),
-      omega (arith, length-take k ns, at),
-    )
-
 -- whether an id is there is whether it has a number
 pub is_there : (ns : List Node) (n : Node) → IsDistinct node_eq ns
     → is_some (number_of ns n) ≡ list_any (node_eq n) ns
@@ -116,9 +98,3 @@ pub not_at : (node q : Node) → q ≢ node → is_at (node_cmp node) q ≡ fals
 not_at node q other =
     false_from_ne_true (is_at (node_cmp node) q)
     (λ h. other (sym (node_cmp_exact node q (equal_told (node_cmp node q) h))))
-
--- what stands at a place after it was set
-pub set_here : {A : Type 0} (xs : List A) (k : ℕ) (a : A) → k < length xs → slice_get (slice_set xs k a) k ≡ Some a
-set_here [] k a l = absurd (omega arith)
-set_here (y ∷ xs) zero a l = refl
-set_here (y ∷ xs) (suc k) a l = set_here xs k a (omega arith)

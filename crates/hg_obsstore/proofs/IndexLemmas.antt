@@ -1,5 +1,5 @@
 -- Indexes after a change at one node, and after one at each of some nodes.
-use Rattle.std.proofs.Common.{arith, ◌≡◌, ◌≢◌, ◌+◌, ◌⊎◌, ◌++◌, ◌∷◌, [], ◌∙◌, sym, ap, ℕ, List, true, false, refl}
+use Rattle.std.proofs.Common.{◌≡◌, ◌≢◌, ◌+◌, ◌⊎◌, ◌++◌, ◌∷◌, [], ◌∙◌, sym, ap, ℕ, List, true, false, refl}
 use Rattle.std.proofs.Common.{subst, inl, inr, ⊎_elim, length, take, drop, get_or, ◌<◌, Contains}
 use Rattle.std.proofs.lemmas.Bool.{cases_Bool, false≢true}
 use Rattle.std.proofs.lemmas.List.{take_more, take-append-drop}
@@ -61,9 +61,6 @@ pub unchanged : (ns : List Node) (place : ℕ) (old new : Lists) → new ≡ old
 unchanged ns place old new e n = inl (ap (λ (f : Lists). f n) e)
 
 -- one node more
-pub adds_none : (place : ℕ) (old : Lists) → AddsPlace [] place old old
-adds_none place old = record { here = λ n h. absurd (omega (arith, h.1)); others = λ n h. refl }
-
 pub adds_more : (ns : List Node) (node : Node) (place : ℕ) (old mid new : Lists) → AreBelow old place
     → AddsPlace ns place old mid
     → new node ≡ with_last (mid node) place → ((n : Node) → n ≢ node → new n ≡ mid n)

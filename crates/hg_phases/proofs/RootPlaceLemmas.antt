@@ -1,8 +1,7 @@
 -- Where roots stand before and after changesets were added and phases went down.
 use Rattle.std.proofs.Common.{◌≡◌, ℕ, zero, suc, ◌+◌, ◌<◌, ◌≤◌, true, false, List, [], ◌∷◌, ◌++◌, length}
-use Rattle.std.proofs.Common.{take, drop, set, get_or, slice_get, Some, None, Option, Contains, IsTrue, Bool, ◌↔◌}
+use Rattle.std.proofs.Common.{take, drop, set, get_or, slice_get, Some, None, Option, Contains, Bool, ◌↔◌}
 use Rattle.std.proofs.Common.{◌⊎◌, inl, inr, refl, sym, ap, subst, ◌∙◌, append_assoc, append-nil, arith, true≢false}
-use Rattle.std.specs.Prelude.{not}
 use Rattle.std.specs.List.Sorted.{IsStrictlySortedBy}
 use Rattle.std.specs.Ordering.{nat_cmp}
 use Rattle.std.proofs.lemmas.Bool.{cases_eq, cases_lt}
@@ -115,9 +114,6 @@ module _ (cs : List Contents) (ks : List Phase) where
       | inr ne ↦ inr ((λ e. ne (sym e)), get-set_other flags place p false ne)
     ];
   })
-
-  pub recomputed-none : (P : ℕ → Type 0) (flags : List Bool) → ((p : ℕ) → ¬ (P p)) → AreRecomputed cs ks P flags flags
-  recomputed-none P flags none = record { len = refl; each = λ p. inr (none p, refl) }
 
   -- one recomputation after another
   pub recomputed-then : (P Q R : ℕ → Type 0) (old mid new : List Bool) → AreRecomputed cs ks P old mid
@@ -257,10 +253,6 @@ parent_at_either cs ks i phase first second places = (
   λ h. elim h [ inl f ↦ (f.0, (places f.0).1 (inl f.1), f.2) | inr f ↦ (f.0, (places f.0).1 (inr f.1), f.2) ],
   λ h. elim ((places h.0).0 h.1) [ inl e ↦ inl (h.0, e, h.2) | inr e ↦ inr (h.0, e, h.2) ],
 )
-
-pub other-told : {P : Type 0} (b : Bool) → IsTrue b ↔ P → IsTrue (not b) ↔ (¬ P)
-other-told true told = ((λ h. absurd (true≢false (sym h))), (λ none. absurd (none (told.0 refl))))
-other-told false told = ((λ h p. true≢false (sym (told.1 p))), (λ none. refl))
 
 -- ---- listing the roots
 

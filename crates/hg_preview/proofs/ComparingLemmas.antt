@@ -1,17 +1,15 @@
 -- Messages that are opened, and compared then.
-use Rattle.std.proofs.Common.{◌≡◌, ◌↔◌, [], Bool, Option, None, Some, IsTrue, Ok, Err, IfOk, Result, inl, inr, subst}
+use Rattle.std.proofs.Common.{◌≡◌, ◌↔◌, [], Bool, Option, None, Some, IsTrue, Ok, Err, IfOk, Result, inl, subst}
 use Rattle.std.specs.Io.KnownBytes.{Appends}
-use Rattle.std.proofs.KnownBytes.{Appends-nil, Appends-trans}
+use Rattle.std.proofs.KnownBytes.{Appends-trans}
 use Rattle.hg_log.specs.Drawings.{Text}
 use Rattle.hg_log.specs.declared.fault.DrawFault.{DrawFault}
 use Rattle.hg_log.proofs.DrawingLemmas.{Grows-trans}
-use Rattle.hg_replica.specs.Change.{ChangeValue}
 use Rattle.hg_replica.specs.State.{IsSameState, ReplicaState, nothing_held}
 use Rattle.hg_trial.specs.declared.refusal.Refusal.{Refusal}
 use Rattle.hg_trial.specs.declared.refusal.Refusal.TheVariants.{Message, NoMemory, Part}
 use Rattle.hg_trial.specs.declared.tried.Answer.{Answer}
-use Rattle.hg_trial.specs.declared.tried.Answer.TheVariants.{Refused, Taken}
-use Rattle.hg_trial.specs.declared.turned.Turned.{Turned}
+use Rattle.hg_trial.specs.declared.tried.Answer.TheVariants.{Refused}
 use Rattle.hg_trial.specs.Trials.{IsAnswerTo}
 use Rattle.hg_view.specs.Kept.{KeptValue}
 use Rattle.hg_preview.specs.Answers.{IsAnswerText}
@@ -19,14 +17,6 @@ use Rattle.hg_preview.specs.Comparisons.{ComparesMessages, ComparesStates, IsCom
 use Rattle.hg_preview.specs.Comparisons.{OpensMessage}
 
 -- ---- one message
-
-pub opened : (s t : ReplicaState) (bytes : Text) (told : Answer) (change : ChangeValue) (turned : Turned)
-    (a : Option Text) → s ≡ nothing_held → IsAnswerTo s bytes told t → told ≡ Taken change turned
-    → OpensMessage bytes a a (Some t)
-opened s t bytes told change turned a nothing h is =
-    let P : ReplicaState → Type 0 = λ u. IsAnswerTo u bytes told t in
-    let Q : Answer → Type 0 = λ answer. IsAnswerTo nothing_held bytes answer t in
-    ((change, (subst Q is (subst P nothing h)).0), Appends-nil a)
 
 unfit : (t : ReplicaState) (bytes : Text) (refusal : Refusal) → IsAnswerTo nothing_held bytes (Refused refusal) t
     → IsUnfit bytes
@@ -75,7 +65,3 @@ pub first_unfit : (first second : Text) (a b c : Option Text) (theirs : Option R
     → OpensMessage first a b None → OpensMessage second b c theirs → ComparesMessages first second a c None
 first_unfit first second a b c (Some t) mine opens = (inl mine.0, Grows-trans a b c mine.1 ([], opens.1))
 first_unfit first second a b c None mine unfit = (inl mine.0, Grows-trans a b c mine.1 unfit.1)
-
-pub second_unfit : (first second : Text) (a b c : Option Text) (s : ReplicaState) → OpensMessage first a b (Some s)
-    → OpensMessage second b c None → ComparesMessages first second a c None
-second_unfit first second a b c s mine unfit = (inr unfit.0, Grows-trans a b c ([], mine.1) unfit.1)

@@ -384,9 +384,6 @@ module _ (c : Bool) (old s new : SearchState) (so : Closes (length s.waiting) c 
             [ inl part ↦ inl (part.0, part.1, omega (arith, part.2, longer_waiting), part.3) | inr first ↦ inr first ]
       ]
 
-  entry : Closed
-  entry = record { node = last.node; cyclic = c }
-
   order_is : new.order ≡ old.order ++ (so.more.0 ++ record { node = last.node; cyclic = c } ∷ [])
   order_is = last.order ∙ ap (λ (o : List Closed). o ++ record { node = last.node; cyclic = c } ∷ []) so.more.1
       ∙ append_assoc old.order so.more.0 (record { node = last.node; cyclic = c } ∷ [])

@@ -1,5 +1,5 @@
 -- Answers that stand at the numbers of nodes.
-use Rattle.std.proofs.Common.{◌≡◌, ℕ, zero, suc, ◌+◌, cond, List, [], ◌∷◌, length, set, get_or, replicate, Option, Some}
+use Rattle.std.proofs.Common.{◌≡◌, ℕ, zero, suc, ◌+◌, cond, List, [], ◌∷◌, length, set, get_or, Option, Some}
 use Rattle.std.proofs.Common.{None, ◌⊎◌, inl, inr, refl, sym, ap, subst, ◌∙◌, arith}
 use Rattle.std.specs.List.{position, position_from}
 use Rattle.std.specs.Option.{option_and_then}
@@ -54,11 +54,6 @@ look nodes answers n = option_and_then (answer_at answers) (position (node_eq n)
 pub look_at : (nodes : List Node) (answers : List (Option Solved)) (i : ℕ) (n : Node) → AreOnce nodes → At nodes i n
     → look nodes answers n ≡ answer_at answers i
 look_at nodes answers i n once at = ap (option_and_then (answer_at answers)) (number_at nodes i n once at)
-
-none_there : (count i : ℕ) → answer_at (replicate count None) i ≡ None
-none_there zero i = refl
-none_there (suc count) zero = refl
-none_there (suc count) (suc i) = none_there count i
 
 module _ (nodes : List Node) (once : AreOnce nodes) (answers : List (Option Solved))
     (long : length answers ≡ length nodes) (number : ℕ) (node : Node) (at : At nodes number node)
