@@ -508,7 +508,6 @@ module _ (total : ℕ) where
         (record { scope = scope; changesets = changesets; bounds = bounds; markers = markers }) rest)
 
     store_probed : (len : ℕ) (rest : List ℕ) → in_store (here total (store_in len) rest) ≡ store_then total len rest
-    unfolding store_in
     store_probed len rest =
         field_probed in_store (λ d. refl) len (Truncated (total - length rest)) (λ bytes. bytes) rest
         (λ bytes. yields (told_in (total - length rest) (store_at bytes)) >>= (λ markers. says markers))

@@ -41,7 +41,6 @@ Parts len start = Sequence (IsField len) (λ bytes. Sequence (Found (told_in sta
     (λ markers. SaysOnly markers))
 
 parts_format : (len start : ℕ) → IsFormat (store_in len start) (Parts len start)
-unfolding store_in
 parts_format len start = sequence (field_format (Truncated start) len)
     (λ bytes. sequence (yields_format (told_in start (store_at bytes))) (λ markers. says_format markers))
 
