@@ -1,11 +1,9 @@
 -- What an argument and a command are to the parser, after calls of their builders.
 use Rattle.std.proofs.Common.{Bool, Bor, Option, Some, ap, true, ◌≡◌, ◌∙◌}
-use Rattle.clap.specs.declared.builder.command.Command.TheOpen.{Command-F}
 use Rattle.clap.specs.Words.{Rule, Text, rule_of}
 use Rattle.clap.specs.declared.builder.range.ValueRange.{ValueRange}
 use Rattle.clap.specs.declared.builder.value_parser.ValueParser.{ValueParser}
 use Rattle.clap.specs.declared.builder.arg.Arg.{Arg}
-use Rattle.clap.specs.declared.builder.command.Command.{Command}
 use Rattle.hgfleet.specs.Builders.{IsArgument}
 
 abbrev pub is_global : Arg → Bool
@@ -16,9 +14,6 @@ with_value_name r = record r { value_names = 1 }
 
 abbrev pub wanted : Rule → Rule
 wanted r = record r { required = true }
-
-abbrev pub has_globals : Command-F Command → Bool
-has_globals c = c.has_globals
 
 -- an argument that has a long name too, one that must be given, one whose values another parser takes, and one that
 -- takes so many values

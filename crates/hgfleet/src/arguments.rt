@@ -1,9 +1,8 @@
 //! The arguments of the program.
 ghost use Rattle.std.specs.Prelude.{◌≡◌, ◌↔◌, ◌∷◌, map, ℕ, IsTrue, IfOk, codes};
 ghost use Rattle.std.specs.Prelude.{Ok, Some, None, true, false, ◌≤◌, IfSome, pos};
-ghost use Rattle.clap.specs.Words.{App, Rule, Text, app_of, found_of, kind_of, new_app, rows_of, rule_of};
+ghost use Rattle.clap.specs.Words.{App, Rule, Text, app_of, found_of, kind_of, new_app, rows_of};
 ghost use Rattle.clap.specs.Words.{subcommand_rows_of, with_rule, with_subcommand};
-ghost use Rattle.clap.specs.declared.builder.command.Command.TheViews.{out-Command};
 ghost use Rattle.clap.specs.declared.builder.value_parser.ValueParser.TheVariants.{Signed};
 ghost use Rattle.hg_race.specs.Limits.{least_nodes, most_nodes, most_rounds};
 ghost use Rattle.hgfleet.specs.declared.arguments.ArgumentFault.TheVariants.{NoMemory};
@@ -523,15 +522,14 @@ fn with_command<'a>(
 fn program_alone<'a>(alloc: Global) -> Command<'a>
     ensures { app_of result ≡ program_alone }
 {
-    Command::new(alloc, "hgfleet")
-        .about("Runs scripts of a fleet of Mercurial repositories")
+    let about = "Runs scripts of a fleet of Mercurial repositories";
+    described(alloc, "hgfleet", about, SCRIPT_HELP)
         .version(VERSION)
-        .after_help(SCRIPT_HELP)
         .subcommand_required(true)
 }
 
 fn run<'a>(alloc: Global) -> Result<Command<'a>, AllocError>
-    ensures { IfOk result (λ command. (app_of command ≡ run) × ((out-Command command).has_globals ≡ false)) }
+    ensures { IfOk result (IsCommand run) }
 {
     let run = Ok(command_of(
         alloc,
@@ -565,10 +563,19 @@ pub(crate) fn command_of<'a>(
 ) -> Command<'a>
     ensures { IsCommand (new_app name.entry.now) result }
 {
-    Command::new(alloc, name)
-        .about(about)
-        .after_help(help)
-        .override_usage(usage)
+    described(alloc, name, about, help).override_usage(usage)
+}
+
+/// The same, where its arguments tell how it is used.
+pub(crate) fn described<'a>(
+    alloc: Global,
+    name: &'a str,
+    about: &'a str,
+    help: &'a str,
+) -> Command<'a>
+    ensures { IsCommand (new_app name.entry.now) result }
+{
+    Command::new(alloc, name).about(about).after_help(help)
 }
 
 /// The command with this argument too, where there was memory for the command.
@@ -607,11 +614,10 @@ pub(crate) fn mistake(
 }
 
 fn race<'a>(alloc: Global) -> Result<Command<'a>, AllocError>
-    ensures { IfOk result (λ command. (app_of command ≡ race) × ((out-Command command).has_globals ≡ false)) }
+    ensures { IfOk result (IsCommand race) }
 {
-    let race = Command::new(alloc, "race")
-        .about("Lets threads share nodes, and prints what came of it")
-        .after_help(RACE_HELP);
+    let about = "Lets threads share nodes, and prints what came of it";
+    let race = described(alloc, "race", about, RACE_HELP);
     let race = with_argument(Ok(race), race_nodes(alloc));
     with_argument(race, race_rounds(alloc))
 }
@@ -662,7 +668,7 @@ pub(crate) fn value_argument<'a>(
 
 // A flag `--NAME`.
 fn flag<'a>(alloc: Global, name: &'a str, help: &'a str) -> Arg<'a>
-    ensures { (rule_of result ≡ flag_rule name.entry.now) × (result.global ≡ false) }
+    ensures { IsArgument (flag_rule name.entry.now) result }
 {
     Arg::new(alloc, name)
         .long(name)
@@ -671,8 +677,7 @@ fn flag<'a>(alloc: Global, name: &'a str, help: &'a str) -> Arg<'a>
 }
 
 fn show<'a>(alloc: Global, forms: &'a [&'a str]) -> Result<Command<'a>, AllocError>
-    ensures { IfOk result (λ command.
-        (app_of command ≡ show_at forms.entry) × ((out-Command command).has_globals ≡ false)) }
+    ensures { IfOk result (IsCommand (show_at forms.entry)) }
 {
     let show = command_of(
         alloc,
@@ -685,8 +690,7 @@ fn show<'a>(alloc: Global, forms: &'a [&'a str]) -> Result<Command<'a>, AllocErr
 }
 
 fn write<'a>(alloc: Global, forms: &'a [&'a str]) -> Result<Command<'a>, AllocError>
-    ensures { IfOk result (λ command.
-        (app_of command ≡ write_at forms.entry) × ((out-Command command).has_globals ≡ false)) }
+    ensures { IfOk result (IsCommand (write_at forms.entry)) }
 {
     let write = command_of(
         alloc,
@@ -705,7 +709,7 @@ fn write<'a>(alloc: Global, forms: &'a [&'a str]) -> Result<Command<'a>, AllocEr
 
 // The form of bytes, which must be given.
 fn form_argument<'a>(alloc: Global, forms: &'a [&'a str]) -> Arg<'a>
-    ensures { (rule_of result ≡ form_rule forms.entry) × (result.global ≡ false) }
+    ensures { IsArgument (form_rule forms.entry) result }
 {
     needed_argument(alloc, "form", "FORM", "What the bytes are").value_parser(forms)
 }

@@ -1,10 +1,10 @@
 //! The arguments of a check.
-ghost use Rattle.std.specs.Prelude.{◌≡◌, IfOk, codes, false};
-ghost use Rattle.clap.specs.Words.{app_of, found_of, rows_of};
-ghost use Rattle.clap.specs.declared.builder.command.Command.TheViews.{out-Command};
+ghost use Rattle.std.specs.Prelude.{◌≡◌, IfOk, codes};
+ghost use Rattle.clap.specs.Words.{found_of, rows_of};
 ghost use Rattle.hgfleet.specs.Arguments.{IsCheckOf};
 ghost use Rattle.hgfleet.specs.CheckArguments.{check_app};
 ghost use Rattle.hgfleet.specs.TryArguments.{flag_given};
+ghost use Rattle.hgfleet.specs.Builders.{IsCommand};
 
 use crate::arguments::{Wanted, command_of, flag_of, with_flag};
 use clap::{ArgMatches, Command};
@@ -29,7 +29,7 @@ For example:
 
 /// The command that checks a script, with its flags.
 pub(crate) fn check_command<'a>(alloc: Global) -> Result<Command<'a>, AllocError>
-    ensures { IfOk result (λ command. (app_of command ≡ check_app) × ((out-Command command).has_globals ≡ false)) }
+    ensures { IfOk result (IsCommand check_app) }
 {
     let check = command_of(
         alloc,

@@ -1,11 +1,10 @@
 //! The arguments of what is drawn and told of the nodes that a script leaves.
 ghost use Rattle.std.specs.Prelude.{◌≡◌, IfOk, codes, false};
-ghost use Rattle.clap.specs.Words.{app_of, found_of, kind_of, rows_of, rule_of};
-ghost use Rattle.clap.specs.declared.builder.command.Command.TheViews.{out-Command};
+ghost use Rattle.clap.specs.Words.{found_of, kind_of, rows_of};
 ghost use Rattle.hgfleet.specs.Arguments.{IsFateOf, IsLogOf, IsWhyOf, fate, line_rule, log, log_given};
 ghost use Rattle.hgfleet.specs.Arguments.{log_flags, names_given, nodes_rule, picture_of, why};
 ghost use Rattle.hgfleet.specs.TryArguments.{words_given};
-ghost use Rattle.hgfleet.specs.Builders.{IsCommand};
+ghost use Rattle.hgfleet.specs.Builders.{IsArgument, IsCommand};
 
 use crate::arguments::{
     EXPLAINED, Picture, Wanted, command_of, flag_of, mistake, number_argument, number_of,
@@ -70,7 +69,7 @@ For example:
 
 /// The command that draws histories, with its flags and the names of nodes.
 pub(crate) fn log<'a>(alloc: Global) -> Result<Command<'a>, AllocError>
-    ensures { IfOk result (λ command. (app_of command ≡ log) × ((out-Command command).has_globals ≡ false)) }
+    ensures { IfOk result (IsCommand log) }
 {
     let log = with_argument(log_with_flags(alloc), line_argument(alloc));
     with_argument(log, nodes_argument(alloc))
@@ -100,7 +99,7 @@ fn log_with_flags<'a>(alloc: Global) -> Result<Command<'a>, AllocError>
 
 // The line behind which histories are drawn.
 fn line_argument<'a>(alloc: Global) -> Arg<'a>
-    ensures { (rule_of result ≡ line_rule) × (result.global ≡ false) }
+    ensures { IsArgument line_rule result }
 {
     number_argument(
         alloc,
@@ -113,7 +112,7 @@ fn line_argument<'a>(alloc: Global) -> Arg<'a>
 
 // The names of nodes, any number of them.
 fn nodes_argument<'a>(alloc: Global) -> Arg<'a>
-    ensures { (rule_of result ≡ nodes_rule) × (result.global ≡ false) }
+    ensures { IsArgument nodes_rule result }
 {
     value_argument(
         alloc,
@@ -126,7 +125,7 @@ fn nodes_argument<'a>(alloc: Global) -> Arg<'a>
 
 /// The command that tells why changesets are unstable, with the names of nodes.
 pub(crate) fn why<'a>(alloc: Global) -> Result<Command<'a>, AllocError>
-    ensures { IfOk result (λ command. (app_of command ≡ why) × ((out-Command command).has_globals ≡ false)) }
+    ensures { IfOk result (IsCommand why) }
 {
     let why = command_of(
         alloc,
@@ -141,7 +140,7 @@ pub(crate) fn why<'a>(alloc: Global) -> Result<Command<'a>, AllocError>
 
 /// The command that tells the fates of changesets, with their labels.
 pub(crate) fn fate<'a>(alloc: Global) -> Result<Command<'a>, AllocError>
-    ensures { IfOk result (λ command. (app_of command ≡ fate) × ((out-Command command).has_globals ≡ false)) }
+    ensures { IfOk result (IsCommand fate) }
 {
     let fate = command_of(
         alloc,

@@ -1,15 +1,15 @@
 //! The arguments of a trial and of a comparison.
-ghost use Rattle.std.specs.Prelude.{◌≡◌, IfOk, codes, false, option_map, string_bytes};
-ghost use Rattle.clap.specs.Words.{app_of, found_of, kind_of, rows_of, rule_of};
-ghost use Rattle.clap.specs.declared.builder.command.Command.TheViews.{out-Command};
+ghost use Rattle.std.specs.Prelude.{◌≡◌, IfOk, false, option_map, string_bytes};
+ghost use Rattle.clap.specs.Words.{found_of, kind_of, rows_of};
 ghost use Rattle.hgfleet.specs.Arguments.{IsCompareOf, IsTryOf};
 ghost use Rattle.hgfleet.specs.TryArguments.{account_given, account_of_log, account_without_log, compare_app};
 ghost use Rattle.hgfleet.specs.TryArguments.{file_rule, files_compared, is_hyphen, target_rule, try_app, try_given};
 ghost use Rattle.hgfleet.specs.TryArguments.{try_log_app, words_rule};
-ghost use Rattle.hgfleet.specs.Builders.{IsCommand};
+ghost use Rattle.hgfleet.specs.Builders.{IsArgument, IsCommand};
 
 use crate::arguments::{
-    Wanted, command_of, flag_of, mistake, value_argument, with_argument, with_flag, words_of,
+    Wanted, command_of, described, flag_of, mistake, value_argument, with_argument, with_flag,
+    words_of,
 };
 use clap::error::ErrorKind;
 use clap::{Arg, ArgMatches, Command, Error};
@@ -86,7 +86,7 @@ For example:
 
 /// The command that tries messages: the names of files, one at least, and what is shown then.
 pub(crate) fn try_command<'a>(alloc: Global) -> Result<Command<'a>, AllocError>
-    ensures { IfOk result (λ command. (app_of command ≡ try_app) × ((out-Command command).has_globals ≡ false)) }
+    ensures { IfOk result (IsCommand try_app) }
 {
     let command = with_flag(
         alloc,
@@ -135,7 +135,7 @@ fn try_with_log<'a>(alloc: Global) -> Result<Command<'a>, AllocError>
 
 // The file that is written.
 fn target_argument<'a>(alloc: Global) -> Arg<'a>
-    ensures { (rule_of result ≡ target_rule) × (result.global ≡ false) }
+    ensures { IsArgument target_rule result }
 {
     value_argument(
         alloc,
@@ -153,18 +153,17 @@ pub(crate) fn words_argument<'a>(
     shown: &'a str,
     help: &'a str,
 ) -> Arg<'a>
-    ensures { (rule_of result ≡ words_rule name.entry.now) × (result.global ≡ false) }
+    ensures { IsArgument (words_rule name.entry.now) result }
 {
     needed_argument(alloc, name, shown, help).num_args(1..)
 }
 
 /// The command that compares the repositories of two messages.
 pub(crate) fn compare_command<'a>(alloc: Global) -> Result<Command<'a>, AllocError>
-    ensures { IfOk result (λ command. (app_of command ≡ compare_app) × ((out-Command command).has_globals ≡ false)) }
+    ensures { IfOk result (IsCommand compare_app) }
 {
-    let compare = Command::new(alloc, "compare")
-        .about("Tells in what two repositories differ")
-        .after_help(COMPARE_HELP);
+    let about = "Tells in what two repositories differ";
+    let compare = described(alloc, "compare", about, COMPARE_HELP);
     let compare = with_argument(
         Ok(compare),
         needed_argument(alloc, "first", "FIRST", "The message of the one"),
@@ -182,7 +181,7 @@ pub(crate) fn needed_argument<'a>(
     shown: &'a str,
     help: &'a str,
 ) -> Arg<'a>
-    ensures { (rule_of result ≡ file_rule name.entry.now) × (result.global ≡ false) }
+    ensures { IsArgument (file_rule name.entry.now) result }
 {
     value_argument(alloc, name, shown, help).required(true)
 }

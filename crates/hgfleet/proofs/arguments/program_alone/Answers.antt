@@ -11,10 +11,6 @@ requiring a = record a { top = record a.top { subcommand_required = true } }
 
 pub returns : goal.returns
 returns c =
-    let told : app_of c.about.result ≡ new_app (codes "hgfleet") =
-    ap app_of_fields c.about.ensures ∙ c.new.ensures.app in
     let versioned : app_of c.version.result ≡ with_version (new_app (codes "hgfleet")) =
-    ap app_of_fields c.version.ensures ∙ ap with_version told in
-    let helped : app_of c.after_help.result ≡ with_version (new_app (codes "hgfleet")) =
-    ap app_of_fields c.after_help.ensures ∙ versioned in
-    ap app_of_fields c.subcommand_required.ensures ∙ ap requiring helped
+    ap app_of_fields c.version.ensures ∙ ap with_version c.described.ensures.0 in
+    ap app_of_fields c.subcommand_required.ensures ∙ ap requiring versioned
