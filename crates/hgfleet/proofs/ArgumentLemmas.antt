@@ -1,12 +1,12 @@
 -- What the parser tells at words that are written out.
-use Rattle.std.proofs.Common.{◌≡◌, ◌≢◌, ◌∷◌, [], List, codes, length, refl, inl, inr, ◌∙◌, ap, subst, arith}
-use Rattle.std.proofs.Common.{true}
-use Rattle.std.proofs.Common.{Result, Ok, Err, IfOk}
-use Rattle.clap.specs.Words.{App, Text, Kinds, FailsBy, HasKind, IsAmong, fault_of, is_simple_and_free, kind_of}
+use Rattle.std.proofs.Common.{◌≡◌, ◌≢◌, ◌∷◌, [], List, codes, length, map, refl, inl, inr, ◌∙◌, ap, subst, arith}
+use Rattle.std.proofs.Common.{Option, true, Result, Ok, Err, IfOk}
+use Rattle.clap.specs.Words.{App, Row, Text, Kinds, FailsBy, HasKind, IsAmong, fault_of, is_simple_and_free, kind_of}
 use Rattle.clap.specs.declared.error.Error.{Error}
 use Rattle.clap.specs.declared.error.kind.ErrorKind.TheVariants.{OutOfMemory}
 use Rattle.clap.proofs.OnLiterals.{clap_on_literals}
-use Rattle.hgfleet.specs.Arguments.{ArgumentsAnswer, FormsAnswer, IsRun, IsWithinBounds, Words, faults_at, program_at}
+use Rattle.hgfleet.specs.Arguments.{AnswerBy, ArgumentsAnswer, IsRun, IsWithinBounds, Words, command_met, faults_at}
+use Rattle.hgfleet.specs.Arguments.{form_words, program_at}
 use Rattle.hgfleet.specs.declared.arguments.ArgumentFault.{ArgumentFault}
 use Rattle.hgfleet.specs.declared.arguments.Wanted.{Wanted}
 use Rattle.hgfleet.specs.declared.arguments.Wanted.TheVariants.{Run, RunWithNotes, Race, Log, Show, Write, Why, Fate}
@@ -47,23 +47,28 @@ is_told kinds e (inl m) k = absurd (k m)
 is_told kinds e (inr among) k = among
 
 -- what is answered can be done
-within : (forms : Words) (words : List Text) (r : Result Wanted ArgumentFault) → FormsAnswer forms words r
-    → IfOk r IsWithinBounds
-within forms words (Ok Run) h = tt
-within forms words (Ok (RunWithNotes explains traces is_strict)) h = h.1
-within forms words (Ok (Race nodes rounds)) h = h.1
-within forms words (Ok (Log nodes shows_hidden picture line)) h = h.1
-within forms words (Ok (Show form)) h = h.1
-within forms words (Ok (Write form name)) h = h.1
-within forms words (Ok (Why nodes)) h = h.1
-within forms words (Ok (Fate labels)) h = h.1
-within forms words (Ok (Try trial)) h = h.1
-within forms words (Ok (Compare first second)) h = h.1
-within forms words (Ok (Check fills explains)) h = h.1
-within forms words (Ok (Help e)) h = tt
-within forms words (Ok (Version e)) h = tt
-within forms words (Err e) h = tt
+within : (faults : Kinds) (met : Option (Text × List Row)) (words : List Text) (r : Result Wanted ArgumentFault)
+    → AnswerBy faults met words r → IfOk r IsWithinBounds
+within faults met words (Ok Run) h = tt
+within faults met words (Ok (RunWithNotes explains traces is_strict)) h = h.1
+within faults met words (Ok (Race nodes rounds)) h = h.1
+within faults met words (Ok (Log nodes shows_hidden picture line)) h = h.1
+within faults met words (Ok (Show form)) h = h.1
+within faults met words (Ok (Write form name)) h = h.1
+within faults met words (Ok (Why nodes)) h = h.1
+within faults met words (Ok (Fate labels)) h = h.1
+within faults met words (Ok (Try trial)) h = h.1
+within faults met words (Ok (Compare first second)) h = h.1
+within faults met words (Ok (Check fills explains)) h = h.1
+within faults met words (Ok (Help e)) h = tt
+within faults met words (Ok (Version e)) h = tt
+within faults met words (Err e) h = tt
+
+-- words that name the forms, at no place
+abbrev forms_nowhere : Words
+forms_nowhere = record { ref_ptr = (0, 0); now = map (λ name. record { ref_ptr = (0, 0); now = name }) form_words }
 
 pub answer_within : (words : List Text) (r : Result Wanted ArgumentFault) → ArgumentsAnswer words r
     → IfOk r IsWithinBounds
-answer_within words r h = within h.0 words r h.2
+answer_within words r h =
+    within (faults_at forms_nowhere words) (command_met forms_nowhere words) words r (h forms_nowhere refl)

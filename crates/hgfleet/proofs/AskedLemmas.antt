@@ -19,7 +19,8 @@ forms_at p a b c = record {
 }
 
 abbrev IsAskedFor : Words → Text → Type 0
-IsAskedFor forms name = AreAskedFor (λ words. faults_at forms (name ∷ words)) (λ words. command_met forms (name ∷ words))
+IsAskedFor forms name =
+    AreAskedFor (λ words. faults_at forms (name ∷ words)) (λ words. command_met forms (name ∷ words))
 
 asked_at : (p a b c : ℕ × ℕ) (name : Text) → IsAskedFor (forms_at p a b c) name
 unfolding clap_on_literals faults_at command_met

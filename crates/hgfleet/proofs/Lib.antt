@@ -8,4 +8,5 @@ mod FileLemmas
 mod FlushLemmas
 mod NumberLemmas
 mod OptionLemmas
+mod PlaceLemmas
 mod TryingLemmas

@@ -362,13 +362,13 @@ MeetsWanted met None =
     × (write_met met ≡ None) × (why_met met ≡ None) × (fate_met met ≡ None) × (try_met met ≡ None)
     × (compare_met met ≡ None) × (check_met met ≡ None)
 
--- the parser finds no fault, and the command that the words name asks for this
-abbrev pub AskFor : Words → List Text → Option Wanted → Type 0
-AskFor forms words wanted = (faults_at forms words ≡ []) × MeetsWanted (command_met forms words) wanted
+-- no fault was found, and the command that was met asks for this
+abbrev pub AskFor : Kinds → Option (Text × List Row) → Option Wanted → Type 0
+AskFor faults met wanted = (faults ≡ []) × MeetsWanted met wanted
 
 -- the parser's answer: what the words ask for, or a fault of the words, or that memory ran out
 abbrev pub ParseAnswer : Words → List Text → Result (Option Wanted) Error → Type 0
-ParseAnswer forms words (Ok wanted) = AskFor forms words wanted
+ParseAnswer forms words (Ok wanted) = AskFor (faults_at forms words) (command_met forms words) wanted
 ParseAnswer forms words (Err e) = HasKind (faults_at forms words) e
 
 -- the error is no answer to who asked for a text, and memory didn't run out
@@ -379,19 +379,23 @@ IsMistake e = (kind_of e ≢ DisplayHelp) × (kind_of e ≢ DisplayVersion) × (
 -- are asked for; anything else is what the command that the words name asks for, where the parser finds no fault, and
 -- can be done; all else is bad, and is what the parser says, or words that it takes and that ask for nothing, as a log
 -- that two pictures are asked of, or a trial with flags that exclude each other
-abbrev pub FormsAnswer : Words → List Text → Result Wanted ArgumentFault → Type 0
-FormsAnswer forms words (Ok Run) = IsRun words
-FormsAnswer forms words (Ok (Help e)) = IsAmong DisplayHelp (faults_at forms words)
-FormsAnswer forms words (Ok (Version e)) = IsAmong DisplayVersion (faults_at forms words)
-FormsAnswer forms words (Ok wanted) = AskFor forms words (Some wanted) × IsWithinBounds wanted
-FormsAnswer forms words (Err (BadArguments e)) = ¬ (IsRun words) × IsMistake e
-    × (AskFor forms words None ⊎ IsAmong (kind_of e) (faults_at forms words))
-FormsAnswer forms words (Err NotText) = ⊥
-FormsAnswer forms words (Err NoMemory) = Unit {0}
+abbrev pub AnswerBy : Kinds → Option (Text × List Row) → List Text → Result Wanted ArgumentFault → Type 0
+AnswerBy faults met words (Ok Run) = IsRun words
+AnswerBy faults met words (Ok (Help e)) = IsAmong DisplayHelp faults
+AnswerBy faults met words (Ok (Version e)) = IsAmong DisplayVersion faults
+AnswerBy faults met words (Ok wanted) = AskFor faults met (Some wanted) × IsWithinBounds wanted
+AnswerBy faults met words (Err (BadArguments e)) = ¬ (IsRun words) × IsMistake e
+    × (AskFor faults met None ⊎ IsAmong (kind_of e) faults)
+AnswerBy faults met words (Err NotText) = ⊥
+AnswerBy faults met words (Err NoMemory) = Unit {0}
 
--- that is so for words that name the forms, which lie somewhere
+-- by what the parser finds where the forms have the names behind these references
+abbrev pub FormsAnswer : Words → List Text → Result Wanted ArgumentFault → Type 0
+FormsAnswer forms words answer = AnswerBy (faults_at forms words) (command_met forms words) words answer
+
+-- that is so of all references that lead to the names of the forms, wherever these lie
 abbrev pub ArgumentsAnswer : List Text → Result Wanted ArgumentFault → Type 0
-ArgumentsAnswer words answer = (forms : Words) × NamesForms forms × FormsAnswer forms words answer
+ArgumentsAnswer words answer = (forms : Words) → NamesForms forms → FormsAnswer forms words answer
 
 -- bad arguments are the only refusal; want of memory has no number
 abbrev pub argument_fault_number : ArgumentFault → Option ℕ

@@ -185,7 +185,6 @@ fn finish<E: Print>(errors: &E, done: Result<(), Failure<'_>>) -> ExitCode
     }
 }
 
-#[tactic(auto, using(crate::proofs::ArgumentLemmas::answer_within))]
 fn read_wanted(rt: &(impl Env + AllocGlobal)) -> Result<Wanted, ArgumentFault>
     ensures { IfOk result IsWithinBounds }
 {
