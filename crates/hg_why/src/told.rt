@@ -79,7 +79,7 @@ impl<'a> Telling<'a> {
         self.write_remedy(node, parent, line, writer)
     }
 
-    // Writes to where an orphan is moved, if a remedy is told.
+    // Writes to where an orphan is moved, if a remedy is told and there is such a place.
     fn write_remedy<W: Write>(
         &self,
         node: Node,
@@ -90,39 +90,15 @@ impl<'a> Telling<'a> {
         ensures { OnOk result (Grows (W.contents writer.old) (W.contents writer.new)) }
     {
         match self.remedy {
-            Remedy::ScriptLine => self.write_move(node, parent, line, writer),
+            Remedy::ScriptLine => match move_by(self.alloc, self.kept, node, parent)? {
+                Some(found) => {
+                    let appended = self.push_move(line, node, &found);
+                    write_appended(appended, line, writer)
+                }
+                None => Ok(()),
+            },
             Remedy::Untold => Ok(()),
         }
-    }
-
-    // Writes to where an orphan is moved, if there is such a place.
-    fn write_move<W: Write>(
-        &self,
-        node: Node,
-        parent: Node,
-        line: &mut Vec<u8>,
-        writer: &mut W,
-    ) -> Result<(), DrawFault>
-        ensures { OnOk result (Grows (W.contents writer.old) (W.contents writer.new)) }
-    {
-        match move_by(self.alloc, self.kept, node, parent)? {
-            Some(found) => self.write_move_to(node, &found, line, writer),
-            None => Ok(()),
-        }
-    }
-
-    // Writes that an orphan is moved there.
-    fn write_move_to<W: Write>(
-        &self,
-        node: Node,
-        found: &Move,
-        line: &mut Vec<u8>,
-        writer: &mut W,
-    ) -> Result<(), DrawFault>
-        ensures { OnOk result (Grows (W.contents writer.old) (W.contents writer.new)) }
-    {
-        let appended = self.push_move(line, node, found);
-        write_appended(appended, line, writer)
     }
 
     // Appends the command by which a changeset is moved, and what is said of a choice.

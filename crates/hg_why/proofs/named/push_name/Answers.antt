@@ -1,4 +1,4 @@
-use Rattle.std.proofs.Common.{◌≡◌, ◌++◌, Option, ap, sym, ◌∙◌}
+use Rattle.std.proofs.Common.{◌++◌, Option, ap, sym, ◌∙◌}
 use Rattle.std.specs.Option.{option_map, option_map_or}
 use Rattle.std.proofs.lemmas.Result.{on_ok_weaker}
 use Rattle.hg_log.specs.Drawings.{Text, short_id}
