@@ -1,7 +1,6 @@
 mod AnswerLemmas
 mod ArgumentLemmas
 mod AskedLemmas
-mod BuilderLemmas
 mod CheckingLemmas
 mod CommandLemmas
 mod FileLemmas

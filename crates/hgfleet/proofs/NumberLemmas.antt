@@ -1,9 +1,11 @@
 -- The numbers that are given for a race's options.
 use Rattle.std.proofs.Common.{◌≡◌, ◌∙◌, ◌<◌, ◌≤◌, ◌^◌, ℕ, Bool, true, false, cond, refl, sym, ap, subst, arith}
-use Rattle.std.proofs.Common.{List, codes, Option, Some, None, Result, Ok, Err, true≢false}
+use Rattle.std.proofs.Common.{List, codes, Option, Some, None, Result, true≢false}
 use Rattle.std.specs.Prelude.{is_some, option_and_then, unwrap_or}
 use Rattle.std.specs.Str.{bytes_eq}
-use Rattle.std.specs.Str.Parse.{ParsesUnsigned, digits_value, without_leading_plus}
+use Rattle.std.specs.Str.Parse.{ExplainsUnsignedError, HasUnsignedDigitsIfOk, ParsesUnsigned, digits_value}
+use Rattle.std.specs.Str.Parse.{without_leading_plus}
+use Rattle.std.specs.declared.num.ParseIntError.{ParseIntError}
 use Rattle.clap.specs.Words.{IsUnsignedIn, ReadsOne, Row, Text, found_of}
 use Rattle.clap.specs.Words.{one_of, one_text, rows_of}
 use Rattle.clap.specs.ValueTests.{is_unsigned_in}
@@ -32,13 +34,14 @@ without low high t h = go (is_unsigned_in low high t) refl
     go true e = absurd (h (accepts-Accepts false (Unsigned low high) t e))
     go false e = rw e refl
 
--- ---- what a getter gives, where the type reads the text as an unsigned number of k bits
+-- ---- what a getter gives, where the text is read as an unsigned number of 32 bits
 
-module _ {E : Type 0} (G : List ℕ → Result ℕ E → Type 0) (k low high : ℕ)
-    (reads : (u : Text) (x : Result ℕ E) → G u x → ParsesUnsigned k 10 u x)
-    (fits : high < 2 ^ k) (narrow : high < 2 ^ 64)
-    (m : ArgMatches) (id : Text) (r : Option ℕ) (none : one_text (found_of m) id ≡ None → r ≡ None)
-    (value : (t : Text) → one_text (found_of m) id ≡ Some t → ReadsOne G t r) where
+abbrev Reads : List ℕ → Result ℕ ParseIntError → Type 0
+Reads bs r = ParsesUnsigned 32 10 bs r × ExplainsUnsignedError 10 bs r × HasUnsignedDigitsIfOk bs r
+
+module _ (low high : ℕ) (fits : high < 2 ^ 32) (m : ArgMatches) (id : Text) (r : Option ℕ)
+    (none : one_text (found_of m) id ≡ None → r ≡ None)
+    (value : (t : Text) → one_text (found_of m) id ≡ Some t → ReadsOne Reads t r) where
   by_rows : {o : Option ℕ} → o ≡ option_and_then (number_within low high) (one_text (found_of m) id)
       → o ≡ number_given id low high (rows_of (found_of m))
   by_rows h = h ∙ ap (option_and_then (number_within low high)) (one_text-rows (found_of m) id)
@@ -51,7 +54,7 @@ module _ {E : Type 0} (G : List ℕ → Result ℕ E → Type 0) (k low high : �
       go : (o : Option Text) → one_text (found_of m) id ≡ o → Some n ≡ option_and_then (number_within low high) o
       go None e = absurd (some_is_given n (sym (none e) ∙ is))
       go (Some t) e =
-          let h = reads t (Ok n) (subst (ReadsOne G t) is (value t e)) in
+          let h = (subst (ReadsOne Reads t) is (value t e)).0 in
           ap Some h.1 ∙ within low high t (h.0.0, omega (arith, h.1), omega (arith, h.1), omega (arith, h.1))
 
   -- a number out of the bounds
@@ -62,7 +65,7 @@ module _ {E : Type 0} (G : List ℕ → Result ℕ E → Type 0) (k low high : �
       go : (o : Option Text) → one_text (found_of m) id ≡ o → None ≡ option_and_then (number_within low high) o
       go None e = refl
       go (Some t) e =
-          let h = reads t (Ok n) (subst (ReadsOne G t) is (value t e)) in
+          let h = (subst (ReadsOne Reads t) is (value t e)).0 in
           without low high t (λ u. out (omega (arith, h.1, u.2)) (omega (arith, h.1, u.3)))
 
   -- no number
@@ -72,8 +75,8 @@ module _ {E : Type 0} (G : List ℕ → Result ℕ E → Type 0) (k low high : �
       go : (o : Option Text) → one_text (found_of m) id ≡ o → None ≡ option_and_then (number_within low high) o
       go None e = refl
       go (Some t) e =
-          let h = subst (ReadsOne G t) is (value t e) in
-          without low high t (λ u. reads t (Err h.0) h.1 (u.0, omega (arith, u.3, fits)))
+          let h = subst (ReadsOne Reads t) is (value t e) in
+          without low high t (λ u. h.1.0 (u.0, omega (arith, u.3, fits)))
 
 -- ---- the numbers of the words
 

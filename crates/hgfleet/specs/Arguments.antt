@@ -294,55 +294,6 @@ texts_of = map string_bytes
 abbrev pub options_of_trial : WantedTrial → TrialOptions
 options_of_trial trial = (texts_of trial.files.items, trial.account, option_map string_bytes trial.target)
 
--- the wanted is the race of these numbers, the log with these options, and so on
-abbrev pub IsRaceOf : Option (ℕ × ℕ) → Option Wanted → Type 0
-IsRaceOf numbers (Some (Race nodes rounds)) = numbers ≡ Some (nodes, rounds)
-IsRaceOf numbers None = numbers ≡ None
-IsRaceOf numbers _ = ⊥
-
-abbrev pub IsRunWithNotesOf : Option RunNotes → Option Wanted → Type 0
-IsRunWithNotesOf notes (Some (RunWithNotes explains traces is_strict)) = notes ≡ Some (explains, traces, is_strict)
-IsRunWithNotesOf notes None = notes ≡ None
-IsRunWithNotesOf notes _ = ⊥
-
-abbrev pub IsLogOf : Option LogOptions → Option Wanted → Type 0
-IsLogOf options (Some (Log nodes shows_hidden picture line)) =
-    options ≡ Some (texts_of nodes.items, shows_hidden, picture, line)
-IsLogOf options None = options ≡ None
-IsLogOf options _ = ⊥
-
-abbrev pub IsWhyOf : List Text → Option Wanted → Type 0
-IsWhyOf names (Some (Why nodes)) = names ≡ texts_of nodes.items
-IsWhyOf names _ = ⊥
-
-abbrev pub IsFateOf : List Text → Option Wanted → Type 0
-IsFateOf given (Some (Fate labels)) = given ≡ texts_of labels.items
-IsFateOf given _ = ⊥
-
-abbrev pub IsTryOf : Option TrialOptions → Option Wanted → Type 0
-IsTryOf options (Some (Try trial)) = options ≡ Some (options_of_trial trial)
-IsTryOf options None = options ≡ None
-IsTryOf options _ = ⊥
-
-abbrev pub IsCompareOf : Option (Text × Text) → Option Wanted → Type 0
-IsCompareOf files (Some (Compare first second)) = files ≡ Some (string_bytes first, string_bytes second)
-IsCompareOf files None = files ≡ None
-IsCompareOf files _ = ⊥
-
-abbrev pub IsCheckOf : Bool → Bool → Option Wanted → Type 0
-IsCheckOf writes says_why (Some (Check fills explains)) = (writes ≡ fills) × (says_why ≡ explains)
-IsCheckOf writes says_why _ = ⊥
-
-abbrev pub IsShowOf : Option Form → Option Wanted → Type 0
-IsShowOf form (Some (Show shown)) = form ≡ Some shown
-IsShowOf form None = form ≡ None
-IsShowOf form _ = ⊥
-
-abbrev pub IsWriteOf : Option (Form × Text) → Option Wanted → Type 0
-IsWriteOf given (Some (Write form name)) = given ≡ Some (form, string_bytes name)
-IsWriteOf given None = given ≡ None
-IsWriteOf given _ = ⊥
-
 -- the command that was met, with its rows, asks for this; none where it asks for nothing more than a run
 abbrev pub MeetsWanted : Option (Text × List Row) → Option Wanted → Type 0
 MeetsWanted met (Some (RunWithNotes explains traces is_strict)) = run_met met ≡ Some (explains, traces, is_strict)

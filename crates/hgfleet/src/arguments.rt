@@ -1,22 +1,16 @@
 //! The arguments of the program.
 ghost use Rattle.std.specs.Prelude.{◌≡◌, ◌↔◌, ◌∷◌, map, ℕ, IsTrue, IfOk, codes};
-ghost use Rattle.std.specs.Prelude.{Ok, Some, None, true, false, ◌≤◌, IfSome, pos};
-ghost use Rattle.clap.specs.Words.{App, Rule, Text, app_of, found_of, kind_of, new_app, rows_of};
+ghost use Rattle.std.specs.Prelude.{Ok, Some, None, true, false, ◌≤◌, IfSome, option_map, pos};
+ghost use Rattle.clap.specs.Words.{App, Rule, Text, app_of, first_of, found_of, kind_of, new_app, rows_of};
 ghost use Rattle.clap.specs.Words.{subcommand_rows_of, with_rule, with_subcommand};
 ghost use Rattle.clap.specs.declared.builder.value_parser.ValueParser.TheVariants.{Signed};
 ghost use Rattle.hg_race.specs.Limits.{least_nodes, most_nodes, most_rounds};
 ghost use Rattle.hgfleet.specs.declared.arguments.ArgumentFault.TheVariants.{NoMemory};
 ghost use Rattle.hg_show.specs.declared.form.Form.TheVariants.{Store, Message};
 ghost use Rattle.hgfleet.specs.Arguments.{ArgumentsAnswer, FormsAnswer, IsRun, IsMistake, MeetsWanted, NamesForms};
-ghost use Rattle.hgfleet.specs.Arguments.{ParseAnswer, Words, command_met, faults_at};
-ghost use Rattle.hgfleet.specs.Arguments.{program_at, program_alone};
-ghost use Rattle.hgfleet.specs.Arguments.{run, race, show_at, write_at, form_rule};
-ghost use Rattle.hgfleet.specs.Arguments.{IsRunWithNotesOf, notes_given};
-ghost use Rattle.hgfleet.specs.Arguments.{IsRaceOf, number_given, numbers_given};
-ghost use Rattle.hgfleet.specs.Arguments.{number_rule, wanted_number};
-ghost use Rattle.hgfleet.specs.Arguments.{texts_of};
-ghost use Rattle.hgfleet.specs.Arguments.{IsShowOf, form_given, form_named};
-ghost use Rattle.hgfleet.specs.Arguments.{IsWriteOf, write_given};
+ghost use Rattle.hgfleet.specs.Arguments.{ParseAnswer, Words, command_met, faults_at, form_given, form_named};
+ghost use Rattle.hgfleet.specs.Arguments.{form_rule, number_given, number_rule, program_alone, program_at, race, run};
+ghost use Rattle.hgfleet.specs.Arguments.{show_at, texts_of, wanted_number, write_at};
 ghost use Rattle.hgfleet.specs.Asked.{AreAskedFor};
 ghost use Rattle.hgfleet.specs.Builders.{IsArgument, IsCommand, IsProgram, value_rule};
 ghost use Rattle.hgfleet.specs.TryArguments.{flag_given, flag_rule, words_given};
@@ -25,7 +19,8 @@ ghost use Rattle.hgfleet.specs.Arguments.{argument_fault_number, argument_fault_
 use crate::check_arguments::{check_command, check_of};
 use crate::node_arguments::{fate, fate_of, log, log_of, two_pictures, why, why_of};
 use crate::try_arguments::{
-    WantedTrial, compare_command, compare_of, excluding_flags, needed_argument, try_command, try_of,
+    WantedTrial, compare_command, compare_of, copy_of, excluding_flags, needed_argument,
+    try_command, try_of,
 };
 use clap::builder::ValueParser;
 use clap::error::ErrorKind;
@@ -373,7 +368,7 @@ fn given_to(alloc: Global, name: &str, given: &ArgMatches<'_>) -> Result<Option<
 
 // The run of these flags, none where no flag is given.
 fn run_of(run: &ArgMatches<'_>) -> Option<Wanted>
-    ensures { IsRunWithNotesOf (notes_given (rows_of (found_of run.now))) result }
+    ensures { MeetsWanted (Some (codes "run", rows_of (found_of run.now))) result }
 {
     let explains = flag_of(run, "explain");
     let traces = flag_of(run, "trace");
@@ -391,7 +386,7 @@ fn run_of(run: &ArgMatches<'_>) -> Option<Wanted>
 
 // The race of these numbers, which lie within their bounds, and so fit.
 fn race_of(race: &ArgMatches<'_>) -> Option<Wanted>
-    ensures { IsRaceOf (numbers_given (rows_of (found_of race.now))) result }
+    ensures { MeetsWanted (Some (codes "race", rows_of (found_of race.now))) result }
 {
     let nodes = number_of(race, "nodes", 2, 16)?;
     let rounds = number_of(race, "rounds", 1, 1_000)?;
@@ -448,7 +443,7 @@ pub(crate) fn flag_of(given: &ArgMatches<'_>, flag: &str) -> bool
 
 // The form of the bytes that are shown.
 fn show_of(show: &ArgMatches<'_>) -> Option<Wanted>
-    ensures { IsShowOf (form_given (rows_of (found_of show.now))) result }
+    ensures { MeetsWanted (Some (codes "show", rows_of (found_of show.now))) result }
 {
     let form = form_of(show)?;
     Some(Wanted::Show(form))
@@ -456,17 +451,11 @@ fn show_of(show: &ArgMatches<'_>) -> Option<Wanted>
 
 // The form of the bytes that are written, and the name of whose they are.
 fn write_of(alloc: Global, write: &ArgMatches<'_>) -> Result<Option<Wanted>, AllocError>
-    ensures { IfOk result (IsWriteOf (write_given (rows_of (found_of write.now)))) }
+    ensures { IfOk result (MeetsWanted (Some (codes "write", rows_of (found_of write.now)))) }
 {
-    match form_of(write) {
-        Some(form) => match write.get_str("name") {
-            Some(given) => {
-                let name = String::from_str(alloc, given)?;
-                Ok(Some(Wanted::Write { form, name }))
-            }
-            None => Ok(None),
-        },
-        None => Ok(None),
+    match (form_of(write), copy_of(alloc, text_of(write, "name"))?) {
+        (Some(form), Some(name)) => Ok(Some(Wanted::Write { form, name })),
+        _ => Ok(None),
     }
 }
 
@@ -474,10 +463,14 @@ fn write_of(alloc: Global, write: &ArgMatches<'_>) -> Result<Option<Wanted>, All
 fn form_of(given: &ArgMatches<'_>) -> Option<Form>
     ensures { result ≡ form_given (rows_of (found_of given.now)) }
 {
-    match given.get_str("form") {
-        Some(word) => form_named(word),
-        None => None,
-    }
+    form_named(text_of(given, "form")?)
+}
+
+/// The text that is given for the argument of this name.
+pub(crate) fn text_of<'a>(given: &ArgMatches<'a>, name: &str) -> Option<&'a str>
+    ensures { option_map (λ s. s.now) result ≡ first_of name.now (rows_of (found_of given.now)) }
+{
+    given.get_str(name)
 }
 
 // The form of this name.

@@ -1,9 +1,8 @@
 //! The arguments of a check.
-ghost use Rattle.std.specs.Prelude.{◌≡◌, IfOk, codes};
+ghost use Rattle.std.specs.Prelude.{IfOk, Some, codes};
 ghost use Rattle.clap.specs.Words.{found_of, rows_of};
-ghost use Rattle.hgfleet.specs.Arguments.{IsCheckOf};
+ghost use Rattle.hgfleet.specs.Arguments.{MeetsWanted};
 ghost use Rattle.hgfleet.specs.CheckArguments.{check_app};
-ghost use Rattle.hgfleet.specs.TryArguments.{flag_given};
 ghost use Rattle.hgfleet.specs.Builders.{IsCommand};
 
 use crate::arguments::{Wanted, command_of, flag_of, with_flag};
@@ -54,8 +53,7 @@ pub(crate) fn check_command<'a>(alloc: Global) -> Result<Command<'a>, AllocError
 
 /// That a script is checked, or filled in where this flag is given, and with why lines were refused where that is.
 pub(crate) fn check_of(given: &ArgMatches<'_>) -> Option<Wanted>
-    ensures { IsCheckOf (flag_given (codes "write") (rows_of (found_of given.now)))
-        (flag_given (codes "explain") (rows_of (found_of given.now))) result }
+    ensures { MeetsWanted (Some (codes "check", rows_of (found_of given.now))) result }
 {
     let fills = flag_of(given, "write");
     let explains = flag_of(given, "explain");

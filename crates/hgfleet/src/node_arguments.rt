@@ -1,9 +1,7 @@
 //! The arguments of what is drawn and told of the nodes that a script leaves.
-ghost use Rattle.std.specs.Prelude.{◌≡◌, IfOk, codes, false};
+ghost use Rattle.std.specs.Prelude.{◌≡◌, IfOk, Some, codes, false};
 ghost use Rattle.clap.specs.Words.{found_of, kind_of, rows_of};
-ghost use Rattle.hgfleet.specs.Arguments.{IsFateOf, IsLogOf, IsWhyOf, fate, line_rule, log, log_given};
-ghost use Rattle.hgfleet.specs.Arguments.{log_flags, names_given, nodes_rule, picture_of, why};
-ghost use Rattle.hgfleet.specs.TryArguments.{words_given};
+ghost use Rattle.hgfleet.specs.Arguments.{MeetsWanted, fate, line_rule, log, log_flags, nodes_rule, picture_of, why};
 ghost use Rattle.hgfleet.specs.Builders.{IsArgument, IsCommand};
 
 use crate::arguments::{
@@ -158,7 +156,7 @@ pub(crate) fn fate<'a>(alloc: Global) -> Result<Command<'a>, AllocError>
 
 /// The log of these nodes, with these flags, none where they ask for two pictures.
 pub(crate) fn log_of(alloc: Global, log: &ArgMatches<'_>) -> Result<Option<Wanted>, AllocError>
-    ensures { IfOk result (IsLogOf (log_given (rows_of (found_of log.now)))) }
+    ensures { IfOk result (MeetsWanted (Some (codes "log", rows_of (found_of log.now)))) }
 {
     match picture_of(flag_of(log, "dot"), flag_of(log, "json")) {
         Some(picture) => {
@@ -190,14 +188,14 @@ fn picture_of(is_graph: bool, is_json: bool) -> Option<Picture>
 
 /// That it is told why of these nodes.
 pub(crate) fn why_of(alloc: Global, why: &ArgMatches<'_>) -> Result<Option<Wanted>, AllocError>
-    ensures { IfOk result (IsWhyOf (names_given (rows_of (found_of why.now)))) }
+    ensures { IfOk result (MeetsWanted (Some (codes "why", rows_of (found_of why.now)))) }
 {
     Ok(Some(Wanted::Why(words_of(alloc, why, "nodes")?)))
 }
 
 /// That the fates are told of the changesets with these labels.
 pub(crate) fn fate_of(alloc: Global, fate: &ArgMatches<'_>) -> Result<Option<Wanted>, AllocError>
-    ensures { IfOk result (IsFateOf (words_given (codes "labels") (rows_of (found_of fate.now)))) }
+    ensures { IfOk result (MeetsWanted (Some (codes "fate", rows_of (found_of fate.now)))) }
 {
     Ok(Some(Wanted::Fate(words_of(alloc, fate, "labels")?)))
 }

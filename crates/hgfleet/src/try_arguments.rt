@@ -1,15 +1,14 @@
 //! The arguments of a trial and of a comparison.
-ghost use Rattle.std.specs.Prelude.{◌≡◌, IfOk, false, option_map, string_bytes};
+ghost use Rattle.std.specs.Prelude.{◌≡◌, IfOk, Some, codes, false, option_map, string_bytes};
 ghost use Rattle.clap.specs.Words.{found_of, kind_of, rows_of};
-ghost use Rattle.hgfleet.specs.Arguments.{IsCompareOf, IsTryOf};
+ghost use Rattle.hgfleet.specs.Arguments.{MeetsWanted};
 ghost use Rattle.hgfleet.specs.TryArguments.{account_given, account_of_log, account_without_log, compare_app};
-ghost use Rattle.hgfleet.specs.TryArguments.{file_rule, files_compared, is_hyphen, target_rule, try_app, try_given};
-ghost use Rattle.hgfleet.specs.TryArguments.{try_log_app, words_rule};
+ghost use Rattle.hgfleet.specs.TryArguments.{file_rule, is_hyphen, target_rule, try_app, try_log_app, words_rule};
 ghost use Rattle.hgfleet.specs.Builders.{IsArgument, IsCommand};
 
 use crate::arguments::{
-    Wanted, command_of, described, flag_of, mistake, value_argument, with_argument, with_flag,
-    words_of,
+    Wanted, command_of, described, flag_of, mistake, text_of, value_argument, with_argument,
+    with_flag, words_of,
 };
 use clap::error::ErrorKind;
 use clap::{Arg, ArgMatches, Command, Error};
@@ -189,9 +188,9 @@ pub(crate) fn needed_argument<'a>(
 /// That the messages of these files are tried, with this account of it, none where flags exclude each other, or
 /// standard output is to be the file that is written.
 pub(crate) fn try_of(alloc: Global, given: &ArgMatches<'_>) -> Result<Option<Wanted>, AllocError>
-    ensures { IfOk result (IsTryOf (try_given (rows_of (found_of given.now)))) }
+    ensures { IfOk result (MeetsWanted (Some (codes "try", rows_of (found_of given.now)))) }
 {
-    let target = given.get_str("write");
+    let target = text_of(given, "write");
     if is_hyphen(target) {
         return Ok(None);
     }
@@ -219,8 +218,8 @@ fn is_hyphen(text: Option<&str>) -> bool
     }
 }
 
-// A copy of the text, where there is one.
-fn copy_of(alloc: Global, text: Option<&str>) -> Result<Option<String>, AllocError>
+/// A copy of the text, where there is one.
+pub(crate) fn copy_of(alloc: Global, text: Option<&str>) -> Result<Option<String>, AllocError>
     ensures { IfOk result (λ copy. option_map string_bytes copy ≡ option_map (λ s. s.now) text.entry) }
 {
     match text {
@@ -326,17 +325,12 @@ pub(crate) fn compare_of(
     alloc: Global,
     given: &ArgMatches<'_>,
 ) -> Result<Option<Wanted>, AllocError>
-    ensures { IfOk result (IsCompareOf (files_compared (rows_of (found_of given.now)))) }
+    ensures { IfOk result (MeetsWanted (Some (codes "compare", rows_of (found_of given.now)))) }
 {
-    match given.get_str("first") {
-        Some(first) => match given.get_str("second") {
-            Some(second) => {
-                let first = String::from_str(alloc, first)?;
-                let second = String::from_str(alloc, second)?;
-                Ok(Some(Wanted::Compare { first, second }))
-            }
-            None => Ok(None),
-        },
-        None => Ok(None),
+    let first = copy_of(alloc, text_of(given, "first"))?;
+    let second = copy_of(alloc, text_of(given, "second"))?;
+    match (first, second) {
+        (Some(first), Some(second)) => Ok(Some(Wanted::Compare { first, second })),
+        _ => Ok(None),
     }
 }
